@@ -1,0 +1,2 @@
+-- The number kinds' laws and the lemmas that the functions' proofs share.
+pub mod Literals
