@@ -99,7 +99,7 @@ real f =
       isOneFactor = λ v. eq v oneFloat;
       width = 1;
       count = λ s. length s;
-      at = λ s k. getD s k zeroFloat;
+      at = λ s k. getD s k nan;
       put = λ s k x. set s k x;
       holdsCell = fits f;
       holds = fits f;
@@ -172,7 +172,7 @@ complex =
       isOneFactor = λ v. eq v oneFloat;
       width = 2;
       count = λ s. length s / 2;
-      at = λ s k. record { re = getD s (2 * k) zeroFloat; im = getD s (2 * k + 1) zeroFloat };
+      at = λ s k. record { re = getD s (2 * k) nan; im = getD s (2 * k + 1) nan };
       put = λ s k a. set (set s (2 * k) (a .re)) (2 * k + 1) (a .im);
       holdsCell = fits binary64;
       holds = λ a. fits binary64 (a .re) && fits binary64 (a .im);
