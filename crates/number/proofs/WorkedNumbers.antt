@@ -136,3 +136,8 @@ beta-minus-zero-real = refl
 pub beta-one-minus-zero : betaComplex (pair (whole 1) minusZero) ≡ BetaComplex.Keep
 unfolding eq ofInt
 beta-one-minus-zero = refl
+
+-- any other beta is a factor, and carries its float
+pub beta-three : beta64 (whole 3) ≡ Beta64.Factor (whole 3)
+unfolding eq ofInt
+beta-three = refl
