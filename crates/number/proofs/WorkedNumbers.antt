@@ -30,15 +30,25 @@ pair x y = record { re = x; im = y }
 
 -- ---- each operation rounds once
 
--- 0.1 + 0.2 in f64 is not the f64 nearest 0.3, which is 0x3fd3_3333_3333_3333
+-- 0.1 + 0.2 in f64
 pub tenths64 : toBits binary64 (real64 .add (f64 0x3fb9_9999_9999_999a) (f64 0x3fc9_9999_9999_999a)) ≡ 0x3fd3_3333_3333_3334
 unfolding add ofBits toBits
 tenths64 = refl
 
--- 0.1 + 0.2 in f32 is the f32 nearest 0.3
+-- is not the f64 nearest 0.3
+pub tenths64-not-three : eq (real64 .add (f64 0x3fb9_9999_9999_999a) (f64 0x3fc9_9999_9999_999a)) (f64 0x3fd3_3333_3333_3333) ≡ false
+unfolding add ofBits eq
+tenths64-not-three = refl
+
+-- 0.1 + 0.2 in f32
 pub tenths32 : toBits binary32 (real32 .add (f32 0x3dcc_cccd) (f32 0x3e4c_cccd)) ≡ 0x3e99_999a
 unfolding add ofBits toBits
 tenths32 = refl
+
+-- is the f32 nearest 0.3
+pub tenths32-three : eq (real32 .add (f32 0x3dcc_cccd) (f32 0x3e4c_cccd)) (f32 0x3e99_999a) ≡ true
+unfolding add ofBits eq
+tenths32-three = refl
 
 -- (2^−1022 + 2^−1074) − 2^−1022, both normal, is the smallest f64: subnormal
 pub difference64 : toBits binary64 (real64 .sub (f64 0x0010_0000_0000_0001) (f64 0x0010_0000_0000_0000)) ≡ 1
