@@ -11,3 +11,5 @@ pub mod SlabLaws
 pub mod ComplexLaws
 pub mod ComplexExact
 pub mod Instances
+pub mod ScalingLaws
+pub mod WorkedNumbers

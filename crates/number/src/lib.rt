@@ -272,21 +272,13 @@ impl Complex {
     pub fn is_zero(self) -> bool
         ensures { λ r. ⌜ r ≡ complex .isZero self ⌝ }
     {
-        if Real64(self.re).is_zero() {
-            Real64(self.im).is_zero()
-        } else {
-            false
-        }
+        Real64(self.re).is_zero() && Real64(self.im).is_zero()
     }
 
     pub fn is_one(self) -> bool
         ensures { λ r. ⌜ r ≡ complex .isOne self ⌝ }
     {
-        if Real64(self.re).is_one() {
-            Real64(self.im).is_zero()
-        } else {
-            false
-        }
+        Real64(self.re).is_one() && Real64(self.im).is_zero()
     }
 }
 

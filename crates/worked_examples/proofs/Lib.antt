@@ -1,0 +1,2 @@
+-- The lemma that the functions' proofs share.
+pub mod NotNan
