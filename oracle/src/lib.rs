@@ -1,0 +1,20 @@
+//! The oracle: control-rs's dense kernels, unmodified, with document 01's refusals, as the judge of
+//! zirve-blas. Without the published source at build time there is nothing here but a message.
+
+/// What is said where the published source is not at hand.
+pub const SKIPPED: &str = "oracle: ../shared/docs/src is not there, so there is no oracle; skipped";
+
+
+#[cfg(reference)]
+pub mod answer;
+#[cfg(reference)]
+pub mod default_blas;
+pub mod call;
+pub mod corners;
+pub mod generate;
+pub mod layout;
+pub mod number;
+pub mod random;
+pub mod refusal;
+pub mod storage;
+pub mod value;
