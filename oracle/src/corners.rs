@@ -193,7 +193,7 @@ fn triangles() -> Vec<Corner> {
         corner("trmm Unit multiplies by ONE, then by alpha", trm(Trmm, Complex, &unit, ONE, &rubbish, &[INF, 0.0]), 0, &[NAN, NAN]),
         corner("a left solve refused leaves B unscaled", trm(Trsm, F64, &[0; 4], TWO, &[0.0], &[3.0]), 5, &[3.0]),
         corner("a right solve refused leaves B scaled", trm(Trsm, F64, &[1, 0, 0, 0], TWO, &[0.0], &[3.0]), 5, &[6.0]),
-        corner("pivot (-0, 2) is not zero", trv(Trsv, Complex, &[0, 0, 0], &[-0.0, 2.0], &[0.0, 2.0]), 0, &[1.0, 0.0]),
+        corner("pivot (-0, 2) is not zero", trv(Trsv, Complex, &[0, 0, 0], &[-0.0, 2.0], &[0.0, 2.0]), 0, &[1.0, -0.0]),
         corner("pivot (1e-200, 0) is not zero", trv(Trsv, Complex, &[0, 0, 0], &[1e-200, 0.0], &[1.0, 0.0]), 0, &[INF, NAN]),
         corner("a NaN pivot is not zero", trv(Trsv, F64, &[0, 0, 0], &[NAN], &[1.0]), 0, &[NAN]),
         corner("pivot -0 is zero", trv(Trsv, F64, &[0, 0, 0], &[-0.0], &[1.0]), 5, &[1.0]),

@@ -10,8 +10,8 @@ use crate::value::{self, POOLS, Pool};
 pub struct Plan {
     /// Sizes m, n and k.
     pub sizes: [u64; 3],
-    /// The answer that it is meant to draw.
-    pub aim: u8,
+    /// The refusals that it is meant to meet, two at most; 0 stands for none.
+    pub aims: [u8; 2],
     pub pool: Pool,
 }
 
@@ -21,30 +21,34 @@ const SMALL: [u64; 12] = [0, 1, 1, 2, 2, 2, 3, 3, 3, 4, 4, 5];
 impl Plan {
     pub fn small(rng: &mut Random, aim: u8) -> Self {
         let sizes = [rng.pick(&SMALL), rng.pick(&SMALL), rng.pick(&SMALL)];
-        Plan { sizes, aim, pool: rng.pick(&POOLS) }
+        Plan { sizes, aims: [aim, 0], pool: rng.pick(&POOLS) }
+    }
+
+    fn aims_at(&self, refusal: u8) -> bool {
+        self.aims.contains(&refusal)
     }
 }
 
 /// Views and lengths for the plan; refusals 1 to 4 are aimed at here.
 pub fn views(rng: &mut Random, routine: Routine, flags: &[u8], plan: &Plan) -> Vec<Laid> {
-    let mut sizes = plan.sizes;
-    if matches!(plan.aim, 4 | 5) {
-        sizes = sizes.map(|size| size.max(1));
-    }
-    if plan.aim == 4 {
-        sizes = sizes.map(|size| size.max(2));
-    }
-    let mut shapes = layout::shapes(rng, routine, flags, sizes);
-    let guilty = rng.below(shapes.len() as u64) as usize;
-    if plan.aim == 3 {
+    let least = if plan.aims_at(4) { 2 } else { u64::from(plan.aims_at(5)) };
+    let mut shapes = layout::shapes(rng, routine, flags, plan.sizes.map(|size| size.max(least)));
+    let views = shapes.len() as u64;
+    if plan.aims_at(3) {
+        let guilty = rng.below(views) as usize;
         layout::misshape(rng, &mut shapes[guilty]);
     }
     let mut laid = lay_all(rng, &shapes);
-    match plan.aim {
-        1 => layout::enlarge(rng, &mut laid[guilty]),
-        2 => layout::displace(rng, &mut laid[guilty]),
-        4 => *laid.last_mut().unwrap() = layout::double(rng, *shapes.last().unwrap()),
-        _ => {}
+    if plan.aims_at(4) {
+        *laid.last_mut().unwrap() = layout::double(rng, *shapes.last().unwrap());
+    }
+    if plan.aims_at(2) {
+        let guilty = rng.below(views) as usize;
+        layout::displace(rng, &mut laid[guilty]);
+    }
+    if plan.aims_at(1) {
+        let guilty = rng.below(views) as usize;
+        layout::enlarge(rng, &mut laid[guilty]);
     }
     laid
 }
@@ -71,10 +75,10 @@ pub fn fill(rng: &mut Random, routine: Routine, kind: Kind, flags: &[u8], laid: 
         views: laid.iter().map(|laid| laid.view).collect(),
         slabs,
     };
-    if plan.aim == 5 {
+    if plan.aims_at(5) {
         clear_pivot(rng, &mut call);
     }
-    if plan.aim == 2 && kind == Kind::Complex && rng.once_in(3) {
+    if plan.aims_at(2) && kind == Kind::Complex && rng.once_in(3) {
         halve_last(rng, &mut call);
     }
     call
@@ -121,6 +125,9 @@ pub fn nth(seed: u64, n: u64) -> Call {
     }
     let aim = rng.pick(&[0, 0, 0, 0, 0, 0, 1, 2, 2, 3, 3, 4, 5, 5]);
     let mut plan = Plan::small(&mut rng, aim);
+    if rng.once_in(20) {
+        plan.aims[1] = rng.pick(&[1, 2, 3, 4, 5]);
+    }
     if rng.once_in(100) {
         plan.sizes = [0; 3].map(|_| rng.pick(&[1, 7, 8, 9, 16, 17, 31, 33, 63, 64, 64, 65]));
     }

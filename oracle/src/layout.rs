@@ -83,7 +83,7 @@ pub fn around((rows, cols): Shape, (row_stride, col_stride): (i64, i64), before:
 fn strides(rng: &mut Random, (rows, cols): Shape, target: bool) -> (i64, i64) {
     let (r, c) = (rows as i64, cols as i64);
     let pad = rng.between(0, 2);
-    let step = rng.between(1, 2);
+    let step = rng.pick(&[1, 1, 1, 2]);
     let (mut row_stride, mut col_stride) = match rng.below(5) {
         0 => (c, 1),
         1 => (1, r),
@@ -164,4 +164,37 @@ pub fn double(rng: &mut Random, shape: Shape) -> Laid {
         }
     }
     around(shape, (0, 0), 0, 0)
+}
+
+/// Lays a shape over a slab far too long to be filled: strides up to 2^56, places up to 2^63.
+pub fn far(rng: &mut Random, (rows, cols): Shape) -> Laid {
+    if rows == 0 || cols == 0 {
+        return nothing(rng, (rows, cols));
+    }
+    let mut stride = || (rng.pick(&[1, 2, 3]) << rng.between(40, 54)) + rng.between(-1, 1);
+    let (row_stride, col_stride) = (stride(), stride());
+    let strides = (row_stride * rng.pick(&[1, -1]), col_stride * rng.pick(&[1, -1]));
+    let before = rng.pick(&[0, 1, 1 << 62]);
+    let mut laid = around((rows, cols), strides, before, rng.below(2));
+    if rng.once_in(4) {
+        laid.length -= 1;
+    }
+    laid
+}
+
+/// Lays a shape at the upper end of the places, with strides that lead back or across the end.
+pub fn high(rng: &mut Random, (rows, cols): Shape) -> Laid {
+    let start = rng.pick(&[u64::MAX, u64::MAX - 1, u64::MAX - 1, u64::MAX - 9, 1 << 63]);
+    let (row_stride, col_stride) = (rng.between(-7, 1), rng.between(-2, 0));
+    let view = View { start, rows, cols, row_stride, col_stride };
+    Laid { view, length: rng.pick(&[u64::MAX, u64::MAX, u64::MAX - 1, i64::MAX as u64]) }
+}
+
+/// A small stand-in for a shape of many elements: strides 0 and 1 where it is only read.
+pub fn thin(rng: &mut Random, (rows, cols): Shape, target: bool) -> Laid {
+    if rows == 0 || cols == 0 {
+        return nothing(rng, (rows, cols));
+    }
+    let strides = if target { (cols as i64, 1) } else { rng.pick(&[(0, 1), (1, 0), (0, 0), (0, -1), (-1, 0)]) };
+    around((rows, cols), strides, rng.below(2), 0)
 }

@@ -4,7 +4,6 @@
 /// What is said where the published source is not at hand.
 pub const SKIPPED: &str = "oracle: ../shared/docs/src is not there, so there is no oracle; skipped";
 
-
 #[cfg(reference)]
 pub mod answer;
 #[cfg(reference)]
@@ -13,6 +12,8 @@ pub mod call;
 pub mod corners;
 pub mod generate;
 pub mod layout;
+#[cfg(reference)]
+pub mod list;
 pub mod number;
 pub mod random;
 pub mod refusal;
