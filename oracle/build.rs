@@ -38,7 +38,7 @@ const ROUTINES: [&str; 15] = [
 fn main() {
     let here = PathBuf::from(env::var("CARGO_MANIFEST_DIR").unwrap());
     println!("cargo:rerun-if-changed=build.rs");
-    println!("cargo:rustc-check-cfg=cfg(reference)");
+    println!("cargo:rustc-check-cfg=cfg(reference, capi)");
     take_kernels(&here.join(SOURCE));
     let archive = env::var("ZB_ARCHIVE").map_or_else(|_| here.join(ARCHIVE), PathBuf::from);
     println!("cargo:rerun-if-env-changed=ZB_ARCHIVE");
@@ -127,6 +127,7 @@ fn link_interface(archive: &Path) {
         }
     }
     if linked {
+        println!("cargo:rustc-cfg=capi");
         println!("cargo:rustc-link-search=native={}", archive.parent().unwrap().display());
         println!("cargo:rustc-link-lib=static=capi");
     }

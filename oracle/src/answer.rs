@@ -1,6 +1,6 @@
 //! What a call answers and leaves, by document 01's refusals and the Rust's kernels.
 
-use crate::call::{Call, Factor, Kind, Routine};
+use crate::call::{Call, Kind, Routine};
 use crate::default_blas::{DefaultBlas, level2, level3};
 use crate::number::{Complex, Element, elements, store};
 use crate::refusal::refusal;
@@ -41,6 +41,7 @@ fn run_over<T: Element>(call: &mut Call) -> LinAlgResult<()> {
 }
 
 /// A call's scalars, each as an element and as a real number.
+#[derive(Clone, Copy)]
 pub struct Scalars<T: Element> {
     alpha: T,
     real_alpha: T::Real,
@@ -50,7 +51,6 @@ pub struct Scalars<T: Element> {
 
 impl<T: Element> Scalars<T> {
     pub fn of(call: &Call) -> Self {
-        debug_assert!(call.routine.alpha() != Factor::Nothing || call.routine.beta() == Factor::Nothing);
         Scalars {
             alpha: T::read(&call.alpha),
             real_alpha: T::real(call.alpha[0]),

@@ -1,5 +1,5 @@
 //! The oracle: control-rs's dense kernels, unmodified, with document 01's refusals, as the judge of
-//! zirve-blas. Without the published source at build time there is nothing here but a message.
+//! zirve-blas. Without the published source at build time most of it is left out.
 
 /// What is said where the published source is not at hand.
 pub const SKIPPED: &str = "oracle: ../shared/docs/src is not there, so there is no oracle; skipped";
@@ -7,9 +7,16 @@ pub const SKIPPED: &str = "oracle: ../shared/docs/src is not there, so there is 
 #[cfg(reference)]
 pub mod answer;
 #[cfg(reference)]
-pub mod default_blas;
+pub mod bench;
 pub mod call;
+pub mod capi;
+#[cfg(reference)]
+pub mod compare;
 pub mod corners;
+#[cfg(reference)]
+pub mod default_blas;
+#[cfg(reference)]
+pub mod faults;
 pub mod generate;
 pub mod layout;
 #[cfg(reference)]

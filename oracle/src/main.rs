@@ -12,6 +12,8 @@ fn main() {
     match args[..] {
         ["lists", directory] => write_lists(directory),
         ["counts", directory] => print_counts(directory),
+        ["compare", calls, seed] => compare(number(calls), number(seed)),
+        ["bench"] => oracle::bench::print(),
         _ => {
             eprintln!("usage: oracle lists DIR | counts DIR | compare CALLS SEED | bench | differences");
             std::process::exit(2);
@@ -35,5 +37,38 @@ fn print_counts(directory: &str) {
     for name in names {
         let bytes = std::fs::read(format!("{directory}/{name}.bin")).expect("the list can be read");
         print!("{}", oracle::list::counts(name, &bytes));
+    }
+}
+
+#[cfg(reference)]
+fn number(text: &str) -> u64 {
+    text.parse().expect("a whole number")
+}
+
+/// Compares the C interface, where it is linked, and looks for each planted fault.
+#[cfg(reference)]
+fn compare(calls: u64, seed: u64) {
+    use oracle::{answer, capi, compare, faults};
+    let report = if capi::linked() > 0 {
+        println!("the C interface, {} of 45 functions linked:", capi::linked());
+        compare::compare(capi::answer, calls, seed)
+    } else {
+        println!("the C interface is not linked; the oracle against itself:");
+        compare::compare(|call| Some(answer::answer(call)), calls, seed)
+    };
+    print!("{}", compare::show(&report));
+    println!("planted faults:");
+    let mut missed = 0;
+    for fault in &faults::FAULTS {
+        match compare::first_difference(fault.answer, calls, seed) {
+            Some((n, _)) => println!("  found at call {n}: {}", fault.name),
+            None => {
+                println!("  not found in {calls} calls: {}", fault.name);
+                missed += 1;
+            }
+        }
+    }
+    if report.differences + missed > 0 {
+        std::process::exit(1);
     }
 }

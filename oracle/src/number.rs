@@ -28,7 +28,7 @@ pub trait SaturatingDiv {
 }
 
 pub trait Scalar: Clone + Zero + One + SaturatingAdd + SaturatingSub + SaturatingMul {
-    type Real;
+    type Real: Copy;
     fn conj(self) -> Self;
     fn from_real(real: Self::Real) -> Self;
 }
@@ -72,6 +72,7 @@ macro_rules! real {
 real!(f64, f32);
 
 /// A real and an imaginary part, held together.
+#[repr(C)]
 #[derive(Clone, Copy, Debug, PartialEq)]
 pub struct Complex {
     pub re: f64,
