@@ -6,7 +6,7 @@ use std::process::Command;
 use std::{env, fs};
 
 /// The published source, seen from this directory.
-const SOURCE: &str = "../../shared/docs/src/src--src--math--subprograms.rs.txt";
+const SOURCE: &str = "../../shared/docs/src/src--src--math--";
 
 /// FNV-1a of the functions taken, for control-rs at commit 4515a5ec45.
 const FINGERPRINT: u64 = 0x3da0_22f9_a6d9_b75a;
@@ -17,45 +17,96 @@ const ARCHIVE: &str = "../target/staticlib/libcapi.a";
 const ITEMS: [&str; 3] = ["pub mod level2 {", "pub mod level3 {", "pub struct DefaultBlas;"];
 
 const IMPLS: [&str; 15] = [
-    "level2::Gemv<", "level2::Hemv<", "level2::Her<", "level2::Her2<", "level2::Trmv<", "level2::Trsv<",
-    "level3::Gemm<", "level3::Symm<", "level3::Hemm<", "level3::Syrk<", "level3::Herk<", "level3::Syr2k<",
-    "level3::Her2k<", "level3::Trmm<", "level3::Trsm<",
+    "level2::Gemv<",
+    "level2::Hemv<",
+    "level2::Her<",
+    "level2::Her2<",
+    "level2::Trmv<",
+    "level2::Trsv<",
+    "level3::Gemm<",
+    "level3::Symm<",
+    "level3::Hemm<",
+    "level3::Syrk<",
+    "level3::Herk<",
+    "level3::Syr2k<",
+    "level3::Her2k<",
+    "level3::Trmm<",
+    "level3::Trsm<",
 ];
 
 const FUNCTIONS: [&str; 31] = [
-    "tri_is_upper", "vec_coord", "trsv_row", "in_triangle", "trans_idx", "storage_elem", "scale_dense",
-    "scale_triangle", "symm_left", "symm_right", "hemm_left", "hemm_right", "syrk_update", "herk_update",
-    "herk_accumulate", "syr2k_update", "her2k_dot", "her2k_update", "trmm_tri_elem", "trmm_left_elem",
-    "trmm_left", "trmm_right_elem", "trmm_right", "trsm_diag_solve", "trsm_a_elem", "trsm_left_upper_col",
-    "trsm_left_lower_col", "trsm_left", "trsm_right_upper_col", "trsm_right_lower_col", "trsm_right",
+    "tri_is_upper",
+    "vec_coord",
+    "trsv_row",
+    "in_triangle",
+    "trans_idx",
+    "storage_elem",
+    "scale_dense",
+    "scale_triangle",
+    "symm_left",
+    "symm_right",
+    "hemm_left",
+    "hemm_right",
+    "syrk_update",
+    "herk_update",
+    "herk_accumulate",
+    "syr2k_update",
+    "her2k_dot",
+    "her2k_update",
+    "trmm_tri_elem",
+    "trmm_left_elem",
+    "trmm_left",
+    "trmm_right_elem",
+    "trmm_right",
+    "trsm_diag_solve",
+    "trsm_a_elem",
+    "trsm_left_upper_col",
+    "trsm_left_lower_col",
+    "trsm_left",
+    "trsm_right_upper_col",
+    "trsm_right_lower_col",
+    "trsm_right",
 ];
 
 const ROUTINES: [&str; 15] = [
-    "gemv", "hemv", "her", "her2", "trmv", "trsv", "gemm", "symm", "hemm", "syrk", "herk", "syr2k", "her2k",
-    "trmm", "trsm",
+    "gemv", "hemv", "her", "her2", "trmv", "trsv", "gemm", "symm", "hemm", "syrk", "herk", "syr2k", "her2k", "trmm",
+    "trsm",
 ];
 
 fn main() {
     let here = PathBuf::from(env::var("CARGO_MANIFEST_DIR").unwrap());
     println!("cargo:rerun-if-changed=build.rs");
     println!("cargo:rustc-check-cfg=cfg(reference, capi)");
-    take_kernels(&here.join(SOURCE));
+    let source = |name: &str| {
+        let path = here.join(format!("{SOURCE}{name}.rs.txt"));
+        println!("cargo:rerun-if-changed={}", path.display());
+        fs::read_to_string(path).ok()
+    };
+    if let (Some(subprograms), Some(storage), Some(ops)) = (source("subprograms"), source("storage"), source("ops")) {
+        take("default_blas.rs", kernels(&subprograms));
+        take("place.rs", places(&storage));
+        take("ops.rs", float_operations(&ops));
+        println!("cargo:rustc-cfg=reference");
+    }
     let archive = env::var("ZB_ARCHIVE").map_or_else(|_| here.join(ARCHIVE), PathBuf::from);
     println!("cargo:rerun-if-env-changed=ZB_ARCHIVE");
     link_interface(&archive);
 }
 
-/// Writes the kernels to OUT_DIR/default_blas.rs and sets `reference`; does neither without the source.
-fn take_kernels(source: &Path) {
-    println!("cargo:rerun-if-changed={}", source.display());
-    let Ok(text) = fs::read_to_string(source) else { return };
-    let items = top_level_items(&text);
+/// Writes what is taken to OUT_DIR.
+fn take(name: &str, text: String) {
+    fs::write(PathBuf::from(env::var("OUT_DIR").unwrap()).join(name), text).unwrap();
+}
+
+/// The kernels, with the traits that they implement and the functions that they call.
+fn kernels(source: &str) -> String {
+    let items = top_level_items(source);
     let mut taken = String::new();
     for head in ITEMS {
-        taken.push_str(the_only(&items, head, |item| item.lines().any(|line| line.starts_with(head))));
+        taken.push_str(beginning(&items, head));
     }
     for name in FUNCTIONS {
-        taken.push_str(the_only(&items, name, |item| item.lines().any(|line| declares(line, name))));
+        taken.push_str(function(&items, name));
     }
     for name in IMPLS {
         taken.push_str(the_only(&items, name, |item| {
@@ -65,9 +116,40 @@ fn take_kernels(source: &Path) {
     if fingerprint(&taken) != FINGERPRINT {
         println!("cargo:warning=the kernels are not those of commit 4515a5ec45 ({:#018x})", fingerprint(&taken));
     }
-    let out = PathBuf::from(env::var("OUT_DIR").unwrap()).join("default_blas.rs");
-    fs::write(out, taken).unwrap();
-    println!("cargo:rustc-cfg=reference");
+    taken
+}
+
+/// control-rs's own `offset` and its test of a window, which document 01 replaces.
+fn places(source: &str) -> String {
+    let items = top_level_items(source);
+    let storage = beginning(&items, "pub unsafe trait DenseStorage<T> {");
+    let offset = storage.lines().skip_while(|line| !line.starts_with("    fn offset("));
+    let offset: Vec<&str> = offset.take_while(|line| *line != "    }").collect();
+    let strides = "fn r_stride(&self) -> isize;\nfn c_stride(&self) -> isize;";
+    format!(
+        "pub trait Offset {{\n{strides}\n{}\n}}\n}}\n{}",
+        offset.join("\n"),
+        function(&items, "strided_window_fits")
+    )
+}
+
+/// control-rs's own operations on floats.
+fn float_operations(source: &str) -> String {
+    let items = top_level_items(source);
+    let traits = ["Add", "Sub", "Mul", "Div", "Neg"].map(|name| format!("pub trait Saturating{name}: "));
+    let mut taken: String = traits.iter().map(|head| beginning(&items, head)).collect();
+    taken.push_str(beginning(&items, "macro_rules! saturating_float_impl {"));
+    taken.push_str(beginning(&items, "saturating_float_impl!("));
+    taken
+}
+
+/// The item with a line that begins so.
+fn beginning<'a>(items: &'a [String], head: &str) -> &'a str {
+    the_only(items, head, |item| item.lines().any(|line| line.starts_with(head)))
+}
+
+fn function<'a>(items: &'a [String], name: &str) -> &'a str {
+    the_only(items, name, |item| item.lines().any(|line| declares(line, name)))
 }
 
 /// Does the line begin the declaration of the function?

@@ -52,8 +52,8 @@ impl Routine {
 
     pub fn name(self) -> &'static str {
         [
-            "gemv", "hemv", "her", "her2", "trmv", "trsv", "gemm", "symm", "hemm", "syrk", "herk", "syr2k",
-            "her2k", "trmm", "trsm",
+            "gemv", "hemv", "her", "her2", "trmv", "trsv", "gemm", "symm", "hemm", "syrk", "herk", "syr2k", "her2k",
+            "trmm", "trsm",
         ][self as usize]
     }
 

@@ -70,7 +70,14 @@ pub fn worked_examples() -> Vec<Corner> {
         ),
         corner(
             "W6",
-            call(Symm, F64, &[0, 1], ONE, ZERO, &[(2, 2, &[1.0, 99.0, 2.0, 3.0]), (2, 1, &[1.0, 0.0]), (2, 1, &[8.0, 8.0])]),
+            call(
+                Symm,
+                F64,
+                &[0, 1],
+                ONE,
+                ZERO,
+                &[(2, 2, &[1.0, 99.0, 2.0, 3.0]), (2, 1, &[1.0, 0.0]), (2, 1, &[8.0, 8.0])],
+            ),
             0,
             &[1.0, 2.0],
         ),
@@ -167,7 +174,14 @@ fn sums() -> Vec<Corner> {
         ),
         corner(
             "complex beta (1, -0) keeps",
-            call(Gemv, Complex, &[0], ONE, [1.0, -0.0], &[(1, 1, &[1.0, 0.0]), (1, 1, &[0.0, 0.0]), (1, 1, &[1.0, INF])]),
+            call(
+                Gemv,
+                Complex,
+                &[0],
+                ONE,
+                [1.0, -0.0],
+                &[(1, 1, &[1.0, 0.0]), (1, 1, &[0.0, 0.0]), (1, 1, &[1.0, INF])],
+            ),
             0,
             &[1.0, INF],
         ),
@@ -186,18 +200,38 @@ fn triangles() -> Vec<Corner> {
     let rubbish = [9.0, 9.0];
     vec![
         corner("trsm multiplies by ONE", trm(Trsm, Complex, &unit, ONE, &rubbish, &[0.0, -0.0]), 0, &[0.0, 0.0]),
-        corner("trsm multiplies infinity by ONE", trm(Trsm, Complex, &unit, ONE, &rubbish, &[INF, 0.0]), 0, &[INF, NAN]),
+        corner(
+            "trsm multiplies infinity by ONE",
+            trm(Trsm, Complex, &unit, ONE, &rubbish, &[INF, 0.0]),
+            0,
+            &[INF, NAN],
+        ),
         corner("trsv Unit leaves -0", trv(Trsv, Complex, &[0, 0, 1], &rubbish, &[0.0, -0.0]), 0, &[0.0, -0.0]),
         corner("trsv Unit leaves infinity", trv(Trsv, Complex, &[0, 0, 1], &rubbish, &[INF, 0.0]), 0, &[INF, 0.0]),
         corner("trmv Unit multiplies by ONE", trv(Trmv, Complex, &[0, 0, 1], &rubbish, &[INF, 0.0]), 0, &[INF, NAN]),
-        corner("trmm Unit multiplies by ONE, then by alpha", trm(Trmm, Complex, &unit, ONE, &rubbish, &[INF, 0.0]), 0, &[NAN, NAN]),
+        corner(
+            "trmm Unit multiplies by ONE, then by alpha",
+            trm(Trmm, Complex, &unit, ONE, &rubbish, &[INF, 0.0]),
+            0,
+            &[NAN, NAN],
+        ),
         corner("a left solve refused leaves B unscaled", trm(Trsm, F64, &[0; 4], TWO, &[0.0], &[3.0]), 5, &[3.0]),
         corner("a right solve refused leaves B scaled", trm(Trsm, F64, &[1, 0, 0, 0], TWO, &[0.0], &[3.0]), 5, &[6.0]),
         corner("pivot (-0, 2) is not zero", trv(Trsv, Complex, &[0, 0, 0], &[-0.0, 2.0], &[0.0, 2.0]), 0, &[1.0, -0.0]),
-        corner("pivot (1e-200, 0) is not zero", trv(Trsv, Complex, &[0, 0, 0], &[1e-200, 0.0], &[1.0, 0.0]), 0, &[INF, NAN]),
+        corner(
+            "pivot (1e-200, 0) is not zero",
+            trv(Trsv, Complex, &[0, 0, 0], &[1e-200, 0.0], &[1.0, 0.0]),
+            0,
+            &[INF, NAN],
+        ),
         corner("a NaN pivot is not zero", trv(Trsv, F64, &[0, 0, 0], &[NAN], &[1.0]), 0, &[NAN]),
         corner("pivot -0 is zero", trv(Trsv, F64, &[0, 0, 0], &[-0.0], &[1.0]), 5, &[1.0]),
-        corner("trmv spreads a NaN beside a zero", trv(Trmv, F64, &[0, 0, 0], &[1.0, NAN, 0.0, 1.0], &[1.0, 0.0]), 0, &[NAN, 0.0]),
+        corner(
+            "trmv spreads a NaN beside a zero",
+            trv(Trmv, F64, &[0, 0, 0], &[1.0, NAN, 0.0, 1.0], &[1.0, 0.0]),
+            0,
+            &[NAN, 0.0],
+        ),
     ]
 }
 
@@ -211,9 +245,24 @@ fn shapes() -> Vec<Corner> {
         corner("65 by 0 is too large", gemv((65, 0, &[]), (0, 1, &[]), (65, 1, &[])), 1, &[]),
         corner("64 by 0 passes", gemv((64, 0, &[]), (5, 0, &[]), (64, 1, &[1.0; 64])), 0, &[1.0; 64]),
         corner("0 by 5 is a vector of length 0", gemv((1, 0, &[]), (0, 5, &[]), (1, 1, &[4.0])), 0, &[4.0]),
-        corner("an empty view starts anywhere", seen(gemv((1, 0, &[]), (0, 5, &[]), (1, 1, &[4.0])), 1, u64::MAX, i64::MIN, i64::MAX), 0, &[4.0]),
-        corner("2 by 2 is no vector of length 4", gemv((1, 4, &[1.0; 4]), (2, 2, &[1.0; 4]), (1, 1, &[4.0])), 3, &[4.0]),
-        corner("A is square even for an empty target", call(Trmm, F64, &[0; 4], ONE, ZERO, &[(2, 3, &[0.0; 6]), (2, 0, &[])]), 3, &[]),
+        corner(
+            "an empty view starts anywhere",
+            seen(gemv((1, 0, &[]), (0, 5, &[]), (1, 1, &[4.0])), 1, u64::MAX, i64::MIN, i64::MAX),
+            0,
+            &[4.0],
+        ),
+        corner(
+            "2 by 2 is no vector of length 4",
+            gemv((1, 4, &[1.0; 4]), (2, 2, &[1.0; 4]), (1, 1, &[4.0])),
+            3,
+            &[4.0],
+        ),
+        corner(
+            "A is square even for an empty target",
+            call(Trmm, F64, &[0; 4], ONE, ZERO, &[(2, 3, &[0.0; 6]), (2, 0, &[])]),
+            3,
+            &[],
+        ),
         corner("an empty left solve has no pivot", trsm(0, (2, 0, &[])), 0, &[]),
         corner("an empty right solve has no pivot", trsm(1, (0, 2, &[])), 0, &[]),
         corner("refusal 4 looks at the whole target", seen(square, 1, 0, 1, 1), 4, &[7.0; 4]),

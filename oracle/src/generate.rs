@@ -102,7 +102,7 @@ fn clear_pivot(rng: &mut Random, call: &mut Call) {
 fn halve_last(rng: &mut Random, call: &mut Call) {
     let guilty = rng.below(call.slabs.len() as u64) as usize;
     let slab = &mut call.slabs[guilty];
-    if slab.len() % 2 == 0 {
+    if slab.len().is_multiple_of(2) {
         slab.pop();
     }
 }

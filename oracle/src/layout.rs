@@ -115,8 +115,11 @@ fn loose(rng: &mut Random, (rows, cols): Shape, target: bool) -> (i64, i64) {
 /// Makes a view too large.
 pub fn enlarge(rng: &mut Random, laid: &mut Laid) {
     let size = rng.pick(&[65, 65, 65, 66, 128, 1 << 32, 1 << 63, u64::MAX]);
-    let (one, other) =
-        if rng.once_in(2) { (&mut laid.view.rows, &mut laid.view.cols) } else { (&mut laid.view.cols, &mut laid.view.rows) };
+    let (one, other) = if rng.once_in(2) {
+        (&mut laid.view.rows, &mut laid.view.cols)
+    } else {
+        (&mut laid.view.cols, &mut laid.view.rows)
+    };
     *one = size;
     if rng.once_in(3) {
         *other = rng.below(2);

@@ -16,12 +16,18 @@ pub mod corners;
 #[cfg(reference)]
 pub mod default_blas;
 #[cfg(reference)]
+pub mod differences;
+#[cfg(reference)]
 pub mod faults;
+#[cfg(reference)]
+pub mod format;
 pub mod generate;
 pub mod layout;
 #[cfg(reference)]
 pub mod list;
 pub mod number;
+#[cfg(reference)]
+pub mod published;
 pub mod random;
 pub mod refusal;
 pub mod storage;

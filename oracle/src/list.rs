@@ -1,25 +1,18 @@
 //! The fixed list: calls with the answers that they draw and the targets that they leave, one file
-//! for each family of kernels, in the format that README.md describes.
+//! for each family of kernels, and one of refusals alone.
 
-use crate::answer::answer;
 use crate::call::Routine::*;
-use crate::call::{Call, Factor, Kind, Routine, View};
+use crate::call::{Kind, Routine, View};
 use crate::corners;
+use crate::format::{Check, LONGEST, Record, bodies, body, check_body, file, read_head};
 use crate::generate::{self, Plan};
 use crate::layout::{self, Laid};
 use crate::random::Random;
 use crate::refusal::refusal;
-use crate::value::{POOLS, Pool};
+use crate::value::{self, POOLS, Pool};
 
-/// The first bytes of a file; the number of records follows as a u64.
-pub const MAGIC: &[u8; 8] = b"ZBLIST01";
-/// The longest body of a record.
-pub const LONGEST: usize = 4096;
 /// The longest slab, in cells.
 pub const CELLS: usize = 144;
-/// Stands for the kind in a record without numbers.
-pub const NO_KIND: u8 = 3;
-
 /// A file of the list.
 pub struct Family {
     pub name: &'static str,
@@ -32,52 +25,14 @@ pub struct Family {
 }
 
 pub const FAMILIES: [Family; 3] = [
-    Family {
-        name: "product",
-        routines: &[Gemv, Hemv, Gemm, Symm, Hemm, Syrk, Herk],
-        seed: 1,
-        plain: 7,
-        refused: 6,
-    },
-    Family { name: "rank", routines: &[Her, Her2, Syr2k, Her2k], seed: 2, plain: 9, refused: 6 },
-    Family { name: "triangle", routines: &[Trmv, Trsv, Trmm, Trsm], seed: 3, plain: 4, refused: 6 },
+    Family { name: "product", routines: &[Gemv, Hemv, Gemm, Symm, Hemm, Syrk, Herk], seed: 1, plain: 7, refused: 5 },
+    Family { name: "rank", routines: &[Her, Her2, Syr2k, Her2k], seed: 2, plain: 9, refused: 5 },
+    Family { name: "triangle", routines: &[Trmv, Trsv, Trmm, Trsm], seed: 3, plain: 4, refused: 5 },
 ];
 
 /// The file of refusals alone: views and lengths, no numbers.
 pub const CHECK: &str = "check";
 const CHECK_SEED: u64 = 4;
-
-/// A record: a call as it is before, its answer and the target's slab afterwards.
-#[derive(Clone, Debug, PartialEq, Eq)]
-pub struct Record {
-    pub call: Call,
-    pub answer: u8,
-    pub after: Vec<u64>,
-}
-
-impl Record {
-    /// Runs the call; NaNs are written in one form.
-    pub fn of(call: Call) -> Self {
-        let mut done = call.clone();
-        let answer = answer(&mut done);
-        let after = done.target().iter().map(|&cell| if call.kind.is_nan(cell) { nan(call.kind) } else { cell });
-        Record { answer, after: after.collect(), call }
-    }
-}
-
-fn nan(kind: Kind) -> u64 {
-    if kind == Kind::F32 { 0x7fc0_0000 } else { 0x7ff8_0000_0000_0000 }
-}
-
-/// A check: views with their slabs' lengths in elements, and the answer, 0 to 4.
-#[derive(Clone, Debug, PartialEq, Eq)]
-pub struct Check {
-    pub routine: Routine,
-    pub flags: Vec<u8>,
-    pub views: Vec<View>,
-    pub lengths: Vec<u64>,
-    pub answer: u8,
-}
 
 /// The records of a family.
 pub fn records(family: &Family) -> Vec<Record> {
@@ -100,6 +55,7 @@ pub fn records(family: &Family) -> Vec<Record> {
             for aim in 1..=4 {
                 records.extend((0..family.refused).map(|_| refused(rng, routine, kind, aim)));
             }
+            records.extend((0..3).map(|n| special(rng, routine, kind, n)));
             records.extend((0..4).map(|n| large(rng, routine, kind, n)));
             records.extend([i64::MIN, i64::MAX].map(|stride| {
                 accepted_with(rng, routine, kind, |view| view.row_stride == stride || view.col_stride == stride)
@@ -139,6 +95,19 @@ fn refused(rng: &mut Random, routine: Routine, kind: Kind, aim: u8) -> Record {
         }
         let record = Record::of(generate::call(rng, routine, kind, &flags, &plan));
         (record.answer == aim).then_some(record)
+    })
+}
+
+/// An accepted call of size 3 in which every other cell is special; three of them show every one.
+fn special(rng: &mut Random, routine: Routine, kind: Kind, n: usize) -> Record {
+    until_it_fits(|| {
+        let flags = setting(rng, routine);
+        let plan = Plan { sizes: [3; 3], aims: [0, 0], pool: Pool::Fine };
+        let mut call = generate::call(rng, routine, kind, &flags, &plan);
+        for (k, cell) in call.slabs.iter_mut().flatten().step_by(2).enumerate() {
+            *cell = value::specials(kind)[(6 * n + k) % 16];
+        }
+        Some(Record::of(call)).filter(|record| record.answer == 0)
     })
 }
 
@@ -246,72 +215,6 @@ fn check(routine: Routine, flags: &[u8], laid: &[Laid]) -> Check {
     Check { routine, flags: flags.to_vec(), views, lengths, answer }
 }
 
-// Writing.
-
-fn head(routine: Routine, kind: u8, answer: u8, flags: &[u8]) -> Vec<u8> {
-    let mut bytes = vec![routine as u8, kind, answer, routine.views() as u8, 0, 0, 0, 0];
-    bytes[4..4 + flags.len()].copy_from_slice(flags);
-    bytes
-}
-
-fn put_view(bytes: &mut Vec<u8>, view: &View, length: u64) {
-    let View { start, rows, cols, row_stride, col_stride } = *view;
-    for word in [start, rows, cols, row_stride as u64, col_stride as u64, length] {
-        bytes.extend(word.to_le_bytes());
-    }
-}
-
-fn put_cells(bytes: &mut Vec<u8>, kind: Kind, cells: &[u64]) {
-    for cell in cells {
-        bytes.extend(&cell.to_le_bytes()[..if kind == Kind::F32 { 4 } else { 8 }]);
-    }
-}
-
-/// The scalar's two words; parts that the routine does not take are zero.
-fn words(call: &Call, factor: Factor, value: [u64; 2]) -> [u64; 2] {
-    match factor {
-        Factor::Nothing => [0, 0],
-        Factor::Element if call.kind == Kind::Complex => value,
-        _ => [value[0], 0],
-    }
-}
-
-/// A record's bytes without the length before them.
-pub fn body(record: &Record) -> Vec<u8> {
-    let call = &record.call;
-    let mut bytes = head(call.routine, call.kind as u8, record.answer, &call.flags);
-    let scalars = [words(call, call.routine.alpha(), call.alpha), words(call, call.routine.beta(), call.beta)];
-    for word in scalars.concat() {
-        bytes.extend(word.to_le_bytes());
-    }
-    for (view, slab) in call.views.iter().zip(&call.slabs) {
-        put_view(&mut bytes, view, slab.len() as u64);
-    }
-    for slab in call.slabs.iter().chain([&record.after]) {
-        put_cells(&mut bytes, call.kind, slab);
-    }
-    bytes
-}
-
-fn check_body(check: &Check) -> Vec<u8> {
-    let mut bytes = head(check.routine, NO_KIND, check.answer, &check.flags);
-    for (view, &length) in check.views.iter().zip(&check.lengths) {
-        put_view(&mut bytes, view, length);
-    }
-    bytes
-}
-
-fn file(bodies: &[Vec<u8>]) -> Vec<u8> {
-    let mut bytes = MAGIC.to_vec();
-    bytes.extend((bodies.len() as u64).to_le_bytes());
-    for body in bodies {
-        assert!(body.len() <= LONGEST);
-        bytes.extend((body.len() as u16).to_le_bytes());
-        bytes.extend(body);
-    }
-    bytes
-}
-
 /// Every file of the list: its name and its bytes.
 pub fn files() -> Vec<(&'static str, Vec<u8>)> {
     let mut files = Vec::new();
@@ -320,77 +223,6 @@ pub fn files() -> Vec<(&'static str, Vec<u8>)> {
     }
     files.push((CHECK, file(&checks().iter().map(check_body).collect::<Vec<_>>())));
     files
-}
-
-// Reading.
-
-struct Reader<'a>(&'a [u8]);
-
-impl Reader<'_> {
-    fn take(&mut self, n: usize) -> &[u8] {
-        let (taken, rest) = self.0.split_at(n);
-        self.0 = rest;
-        taken
-    }
-
-    fn word(&mut self) -> u64 {
-        u64::from_le_bytes(self.take(8).try_into().unwrap())
-    }
-
-    fn half(&mut self) -> u64 {
-        u64::from(u32::from_le_bytes(self.take(4).try_into().unwrap()))
-    }
-
-    fn view(&mut self) -> (View, u64) {
-        let [start, rows, cols, row_stride, col_stride, length] = [0; 6].map(|_| self.word());
-        (View { start, rows, cols, row_stride: row_stride as i64, col_stride: col_stride as i64 }, length)
-    }
-
-    fn cells(&mut self, kind: Kind, n: u64) -> Vec<u64> {
-        (0..n).map(|_| if kind == Kind::F32 { self.half() } else { self.word() }).collect()
-    }
-}
-
-/// The bodies of a file's records.
-pub fn bodies(file: &[u8]) -> Vec<&[u8]> {
-    assert_eq!(&file[..8], MAGIC);
-    let count = u64::from_le_bytes(file[8..16].try_into().unwrap());
-    let (mut rest, mut bodies) = (&file[16..], Vec::new());
-    while let Some((length, after)) = rest.split_first_chunk::<2>() {
-        let (body, after) = after.split_at(usize::from(u16::from_le_bytes(*length)));
-        bodies.push(body);
-        rest = after;
-    }
-    assert_eq!(bodies.len() as u64, count);
-    bodies
-}
-
-/// What a body begins with: routine, kind's number, answer and flags.
-pub fn read_head(body: &[u8]) -> (Routine, u8, u8, Vec<u8>) {
-    let routine = Routine::ALL[usize::from(body[0])];
-    (routine, body[1], body[2], body[4..4 + routine.flags().len()].to_vec())
-}
-
-pub fn read_record(body: &[u8]) -> Record {
-    let (routine, kind, answer, flags) = read_head(body);
-    let kind = Kind::ALL[usize::from(kind)];
-    let mut reader = Reader(&body[8..]);
-    let [alpha_re, alpha_im, beta_re, beta_im] = [0; 4].map(|_| reader.word());
-    let views: Vec<(View, u64)> = (0..routine.views()).map(|_| reader.view()).collect();
-    let slabs: Vec<Vec<u64>> = views.iter().map(|&(_, length)| reader.cells(kind, length)).collect();
-    let after = reader.cells(kind, views.last().unwrap().1);
-    assert!(reader.0.is_empty());
-    let views = views.iter().map(|&(view, _)| view).collect();
-    let call = Call { routine, kind, flags, alpha: [alpha_re, alpha_im], beta: [beta_re, beta_im], views, slabs };
-    Record { call, answer, after }
-}
-
-pub fn read_check(body: &[u8]) -> Check {
-    let (routine, _, answer, flags) = read_head(body);
-    let mut reader = Reader(&body[8..]);
-    let (views, lengths) = (0..routine.views()).map(|_| reader.view()).unzip();
-    assert!(reader.0.is_empty());
-    Check { routine, flags, views, lengths, answer }
 }
 
 /// Counts of a file by routine, kind and answer, as lines of a table.

@@ -14,6 +14,11 @@ fn main() {
         ["counts", directory] => print_counts(directory),
         ["compare", calls, seed] => compare(number(calls), number(seed)),
         ["bench"] => oracle::bench::print(),
+        ["differences"] => {
+            for (name, call) in oracle::differences::calls() {
+                println!("{name}\t{}", oracle::differences::outcome(call));
+            }
+        }
         _ => {
             eprintln!("usage: oracle lists DIR | counts DIR | compare CALLS SEED | bench | differences");
             std::process::exit(2);

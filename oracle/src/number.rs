@@ -110,10 +110,7 @@ impl SaturatingSub for Complex {
 impl SaturatingMul for Complex {
     #[inline(always)]
     fn saturating_mul(&self, other: &Self) -> Self {
-        Complex {
-            re: self.re * other.re - self.im * other.im,
-            im: self.re * other.im + self.im * other.re,
-        }
+        Complex { re: self.re * other.re - self.im * other.im, im: self.re * other.im + self.im * other.re }
     }
 }
 

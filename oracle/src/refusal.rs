@@ -63,9 +63,7 @@ fn shapes_fit(routine: Routine, flags: &[u8], views: &[View]) -> bool {
             let (m, n) = op(flags[0], a);
             length(x) == Some(n) && length(y) == Some(m)
         }
-        (Hemv, [a, x, y]) | (Her2, [x, y, a]) => {
-            order(a).is_some() && length(x) == order(a) && length(y) == order(a)
-        }
+        (Hemv, [a, x, y]) | (Her2, [x, y, a]) => order(a).is_some() && length(x) == order(a) && length(y) == order(a),
         (Her, [x, a]) | (Trmv | Trsv, [a, x]) => order(a).is_some() && length(x) == order(a),
         (Gemm, [a, b, c]) => {
             let ((m, k), (p, n)) = (op(flags[0], a), op(flags[1], b));

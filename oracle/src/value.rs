@@ -41,15 +41,27 @@ const SPECIAL64: [u64; 16] = [
 ];
 
 const SPECIAL32: [u64; 16] = [
-    0x7fc0_0000, 0xffc0_0001, 0x7f80_0000, 0xff80_0000, 0x0000_0000, 0x8000_0000, 0x0000_0001, 0x8000_0001,
-    0x007f_ffff, 0x807f_ffff, 0x0080_0000, 0x7f7f_ffff, 0xff7f_ffff, 0x3f80_0001, 0x3f7f_ffff, 0x2000_0000,
+    0x7fc0_0000,
+    0xffc0_0001,
+    0x7f80_0000,
+    0xff80_0000,
+    0x0000_0000,
+    0x8000_0000,
+    0x0000_0001,
+    0x8000_0001,
+    0x007f_ffff,
+    0x807f_ffff,
+    0x0080_0000,
+    0x7f7f_ffff,
+    0xff7f_ffff,
+    0x3f80_0001,
+    0x3f7f_ffff,
+    0x2000_0000,
 ];
 
-pub fn special(rng: &mut Random, kind: Kind) -> u64 {
-    match kind {
-        Kind::F32 => rng.pick(&SPECIAL32),
-        _ => rng.pick(&SPECIAL64),
-    }
+/// Every special number of the kind's cells.
+pub fn specials(kind: Kind) -> [u64; 16] {
+    if kind == Kind::F32 { SPECIAL32 } else { SPECIAL64 }
 }
 
 fn fine(rng: &mut Random, kind: Kind) -> u64 {
@@ -65,7 +77,7 @@ pub fn cell(rng: &mut Random, kind: Kind, pool: Pool) -> u64 {
     match pool {
         Pool::Whole => kind.cell(rng.between(-9, 9) as f64),
         Pool::Fine => fine(rng, kind),
-        Pool::Mixed if rng.once_in(4) => special(rng, kind),
+        Pool::Mixed if rng.once_in(4) => rng.pick(&specials(kind)),
         Pool::Mixed => fine(rng, kind),
         Pool::Any if kind == Kind::F32 => rng.bits() >> 32,
         Pool::Any => rng.bits(),

@@ -4,7 +4,8 @@
 use oracle::answer::answer;
 use oracle::compare::{compare, difference, first_difference};
 use oracle::faults::FAULTS;
-use oracle::list::{self, read_record};
+use oracle::format::{self, read_record};
+use oracle::list;
 
 const CALLS: u64 = 20_000;
 
@@ -31,7 +32,7 @@ fn the_list_finds_each_planted_fault() {
         .map(|family| std::fs::read(format!("{}/lists/{}.bin", env!("CARGO_MANIFEST_DIR"), family.name)).unwrap())
         .collect();
     for fault in &FAULTS {
-        let found = files.iter().flat_map(|file| list::bodies(file)).map(read_record).any(|record| {
+        let found = files.iter().flat_map(|file| format::bodies(file)).map(read_record).any(|record| {
             let (mut ours, mut theirs) = (record.call.clone(), record.call.clone());
             *ours.slabs.last_mut().unwrap() = record.after.clone();
             let given = (fault.answer)(&mut theirs);

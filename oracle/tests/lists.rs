@@ -3,7 +3,8 @@
 
 use oracle::answer::answer;
 use oracle::call::{Kind, Routine, View};
-use oracle::list::{self, CHECK, Record};
+use oracle::format::{self, Record};
+use oracle::list::{self, CHECK};
 use oracle::refusal::refusal;
 
 fn committed(name: &str) -> Vec<u8> {
@@ -12,7 +13,7 @@ fn committed(name: &str) -> Vec<u8> {
 
 fn records() -> Vec<Record> {
     let files = list::FAMILIES.iter().map(|family| committed(family.name));
-    files.flat_map(|file| list::bodies(&file).into_iter().map(list::read_record).collect::<Vec<_>>()).collect()
+    files.flat_map(|file| format::bodies(&file).into_iter().map(format::read_record).collect::<Vec<_>>()).collect()
 }
 
 #[test]
@@ -37,8 +38,8 @@ fn records_hold() {
 
 #[test]
 fn checks_hold() {
-    for body in list::bodies(&committed(CHECK)) {
-        let check = list::read_check(body);
+    for body in format::bodies(&committed(CHECK)) {
+        let check = format::read_check(body);
         assert_eq!(refusal(check.routine, &check.flags, &check.views, &check.lengths), check.answer);
     }
 }
@@ -69,6 +70,60 @@ fn every_setting_and_every_answer_is_there() {
             assert!(some(&|r| r.answer == 0 && r.call.views.iter().any(|v| v.start == u64::MAX)));
             let odd = |r: &Record| r.answer == 0 && r.call.slabs.iter().any(|slab| slab.len() % 2 == 1);
             assert!(some(&odd), "{routine:?} {kind:?} odd slabs");
+        }
+    }
+}
+
+/// Cells of every class are computed with: NaN, infinities, both zeros, subnormals.
+#[test]
+fn special_numbers_are_there() {
+    let records = records();
+    for routine in Routine::ALL {
+        for kind in Kind::ALL {
+            let subnormal = |cell: u64| match kind {
+                Kind::F32 => f32::from_bits(cell as u32).is_subnormal(),
+                _ => f64::from_bits(cell).is_subnormal(),
+            };
+            let classes: [&dyn Fn(u64) -> bool; 6] = [
+                &|cell| kind.is_nan(cell),
+                &|cell| cell == kind.cell(f64::INFINITY),
+                &|cell| cell == kind.cell(f64::NEG_INFINITY),
+                &|cell| cell == kind.cell(0.0),
+                &|cell| cell == kind.cell(-0.0),
+                &subnormal,
+            ];
+            for (n, class) in classes.iter().enumerate() {
+                let mut own = records.iter().filter(|r| (r.call.routine, r.call.kind, r.answer) == (routine, kind, 0));
+                assert!(
+                    own.any(|r| r.call.slabs.iter().flatten().any(|&cell| class(cell))),
+                    "{routine:?} {kind:?} {n}"
+                );
+            }
+        }
+    }
+}
+
+/// A refused solve's zero pivot stands in each of three places, for each setting of its flags.
+#[test]
+fn zero_pivots_are_in_every_place() {
+    let records = records();
+    for routine in [Routine::Trsv, Routine::Trsm] {
+        for flags in routine.settings().into_iter().filter(|flags| flags.last() == Some(&0)) {
+            for kind in Kind::ALL {
+                for pivot in 0..3 {
+                    let zero = |r: &Record| {
+                        let (view, width) = (r.call.views[0], kind.width());
+                        let place = view.place(pivot, pivot) as usize * width;
+                        r.call.slabs[0][place..place + width].iter().all(|&cell| kind.number(cell) == 0.0)
+                    };
+                    let mut own = records.iter().filter(|r| {
+                        (r.call.routine, r.call.kind, r.answer) == (routine, kind, 5)
+                            && r.call.flags == flags
+                            && r.call.views[0].rows == 3
+                    });
+                    assert!(own.any(zero), "{routine:?} {kind:?} {flags:?} {pivot}");
+                }
+            }
         }
     }
 }
