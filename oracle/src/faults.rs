@@ -4,7 +4,7 @@ use crate::answer::answer;
 use crate::call::Routine::*;
 use crate::call::{Call, Factor, Kind, View};
 use crate::number::{Complex, Element, elements, store};
-use crate::refusal::{off_the_slab, refusal};
+use crate::refusal::{out_of_bounds, refusal};
 
 pub struct Fault {
     pub name: &'static str,
@@ -250,7 +250,7 @@ fn wrapped_corners(call: &mut Call) -> u8 {
 fn on_long_slabs(call: &Call) -> u8 {
     let near = |view: &View| View { start: 1 << 63, ..*view };
     let views: Vec<View> = call.views.iter().map(near).collect();
-    if views.iter().any(|view| off_the_slab(view, u64::MAX)) {
+    if views.iter().any(|view| out_of_bounds(view, u64::MAX)) {
         return 0;
     }
     refusal(call.routine, &call.flags, &views, &vec![u64::MAX; views.len()])

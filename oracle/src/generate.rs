@@ -40,7 +40,7 @@ pub fn views(rng: &mut Random, routine: Routine, flags: &[u8], plan: &Plan) -> V
     }
     let mut laid = lay_all(rng, &shapes);
     if plan.aims_at(4) {
-        *laid.last_mut().unwrap() = layout::double(rng, *shapes.last().unwrap());
+        *laid.last_mut().unwrap() = layout::overlap(rng, *shapes.last().unwrap());
     }
     if plan.aims_at(2) {
         let guilty = rng.below(views) as usize;

@@ -3,7 +3,7 @@
 use crate::call::Routine::*;
 use crate::call::{Routine, View};
 use crate::random::Random;
-use crate::refusal::doubled;
+use crate::refusal::overlaps;
 
 pub type Shape = (u64, u64);
 
@@ -105,7 +105,7 @@ fn loose(rng: &mut Random, (rows, cols): Shape, target: bool) -> (i64, i64) {
     for _ in 0..4 {
         let (row_stride, col_stride) = (rng.between(-4, 4), rng.between(-4, 4));
         let view = View { start: 0, rows, cols, row_stride, col_stride };
-        if !target || !doubled(&view) {
+        if !target || !overlaps(&view) {
             return (row_stride, col_stride);
         }
     }
@@ -158,11 +158,11 @@ pub fn misshape(rng: &mut Random, shape: &mut Shape) {
 }
 
 /// Lays a shape with two elements on one place, where it has two elements.
-pub fn double(rng: &mut Random, shape: Shape) -> Laid {
+pub fn overlap(rng: &mut Random, shape: Shape) -> Laid {
     for _ in 0..20 {
         let strides = (rng.between(-3, 3), rng.between(-3, 3));
         let laid = around(shape, strides, rng.below(2), rng.below(2));
-        if doubled(&laid.view) {
+        if overlaps(&laid.view) {
             return laid;
         }
     }

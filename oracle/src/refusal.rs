@@ -8,29 +8,31 @@ pub const LARGEST: u64 = 64;
 
 /// The lowest refusal among 1 to 4 that the call meets, or 0. The lengths count elements.
 pub fn refusal(routine: Routine, flags: &[u8], views: &[View], lengths: &[u64]) -> u8 {
-    if views.iter().any(oversize) {
+    if views.iter().any(too_large) {
         1
-    } else if views.iter().zip(lengths).any(|(view, &length)| off_the_slab(view, length)) {
+    } else if views.iter().zip(lengths).any(|(view, &length)| out_of_bounds(view, length)) {
         2
     } else if !(flags_in_range(routine, flags) && shapes_fit(routine, flags, views)) {
         3
-    } else if doubled(views.last().unwrap()) {
+    } else if overlaps(views.last().unwrap()) {
         4
     } else {
         0
     }
 }
 
-pub fn oversize(view: &View) -> bool {
+/// Refusal 1 (oversize): more rows or columns than pass.
+pub fn too_large(view: &View) -> bool {
     view.rows > LARGEST || view.cols > LARGEST
 }
 
-pub fn off_the_slab(view: &View, length: u64) -> bool {
+/// Refusal 2 (off the slab): some element is outside its slab.
+pub fn out_of_bounds(view: &View, length: u64) -> bool {
     view.places().iter().any(|&place| place < 0 || place >= i128::from(length))
 }
 
-/// Do two elements share a place?
-pub fn doubled(view: &View) -> bool {
+/// Refusal 4 (doubled cell): two elements share a place.
+pub fn overlaps(view: &View) -> bool {
     let places = view.places();
     (0..places.len()).any(|i| (0..i).any(|j| places[i] == places[j]))
 }
@@ -55,7 +57,7 @@ fn op(trans: u8, view: &View) -> (u64, u64) {
     if trans == 0 { (view.rows, view.cols) } else { (view.cols, view.rows) }
 }
 
-/// The papers' shape rule.
+/// The papers' shape rule, whose failure is refusal 3 (misfit).
 fn shapes_fit(routine: Routine, flags: &[u8], views: &[View]) -> bool {
     let shape = |view: &View| (view.rows, view.cols);
     match (routine, views) {
