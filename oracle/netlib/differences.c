@@ -163,6 +163,7 @@ static void transposes(void)
 static void sums(void)
 {
     double large = 1e200, t, row[2] = {1, 1}, ones[2] = {1, 1}, a[2] = {1e8, 1}, b[2] = {5e7, 1};
+    z small = 1e-200, huge = 1e200, h = 0;
     t = 0, dgemv_("N", &I1, &I1, &SMALL, &large, &I1, &large, &I1, &D0, &t, &I1);
     show("gemv-alpha-place", &t, 1, 1);
     t = 0, dgemm_("N", "N", &I1, &I1, &I1, &SMALL, &large, &I1, &large, &I1, &D0, &t, &I1);
@@ -171,6 +172,8 @@ static void sums(void)
     show("symm-alpha-place", &t, 1, 1);
     t = 1e200, dtrmm_("L", "U", "N", "N", &I1, &I1, &SMALL, &large, &I1, &t, &I1);
     show("trmm-alpha-place", &t, 1, 1);
+    zher2k_("U", "N", &I1, &I1, &small, &huge, &I1, &huge, &I1, &D0, &h, &I1);
+    show("her2k-alpha-place", &h, 1, 2);
     t = 1e16, dgemv_("N", &I1, &I2, &D1, row, &I1, ones, &I1, &D1, &t, &I1);
     show("gemv-order", &t, 1, 1);
     t = 1e16, dgemm_("N", "N", &I1, &I1, &I2, &D1, row, &I1, ones, &I2, &D1, &t, &I1);

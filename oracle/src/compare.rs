@@ -2,7 +2,6 @@
 
 use crate::answer::answer;
 use crate::call::{Call, Routine};
-use crate::generate;
 
 /// What a comparison found.
 pub struct Report {
@@ -38,11 +37,10 @@ pub fn difference(before: &Call, ours: (&Call, u8), theirs: (&Call, u8)) -> Opti
     (!same).then(|| format!("leaves {:?} for {:?}: {}", numbers(other), numbers(target), before.show()))
 }
 
-/// Compares on generated calls; a candidate that does not have a routine gives no answer.
-pub fn compare(mut candidate: impl FnMut(&mut Call) -> Option<u8>, calls: u64, seed: u64) -> Report {
+/// Compares on the calls; a candidate that does not have a routine gives no answer.
+pub fn compare(candidate: fn(&mut Call) -> Option<u8>, calls: impl Iterator<Item = Call>) -> Report {
     let mut report = Report { calls: [0; 15], answers: [0; 6], differences: 0, first: None };
-    for n in 0..calls {
-        let before = generate::nth(seed, n);
+    for (n, before) in calls.enumerate() {
         let mut theirs = before.clone();
         let Some(their_answer) = candidate(&mut theirs) else { continue };
         let mut ours = before.clone();
@@ -51,26 +49,25 @@ pub fn compare(mut candidate: impl FnMut(&mut Call) -> Option<u8>, calls: u64, s
         report.answers[usize::from(our_answer)] += 1;
         if let Some(found) = difference(&before, (&ours, our_answer), (&theirs, their_answer)) {
             report.differences += 1;
-            report.first.get_or_insert((n, found));
+            report.first.get_or_insert((n as u64, found));
         }
     }
     report
 }
 
-/// The first call, of so many, on which the candidate differs.
-pub fn first_difference(candidate: fn(&mut Call) -> u8, calls: u64, seed: u64) -> Option<(u64, String)> {
-    (0..calls).find_map(|n| {
-        let before = generate::nth(seed, n);
+/// The first of the calls on which the candidate differs.
+pub fn first_difference(candidate: fn(&mut Call) -> u8, calls: impl Iterator<Item = Call>) -> Option<(u64, String)> {
+    calls.enumerate().find_map(|(n, before)| {
         let (mut ours, mut theirs) = (before.clone(), before.clone());
         let (our_answer, their_answer) = (answer(&mut ours), candidate(&mut theirs));
-        difference(&before, (&ours, our_answer), (&theirs, their_answer)).map(|found| (n, found))
+        difference(&before, (&ours, our_answer), (&theirs, their_answer)).map(|found| (n as u64, found))
     })
 }
 
 /// The report in lines.
 pub fn show(report: &Report) -> String {
     let mut text = String::new();
-    for routine in Routine::ALL {
+    for routine in Routine::ALL.into_iter().filter(|&routine| report.calls[routine as usize] > 0) {
         text += &format!("  {:6} {:9} calls\n", routine.name(), report.calls[routine as usize]);
     }
     text += &format!("  answers 0 to 5: {:?}\n", report.answers);

@@ -77,6 +77,7 @@ fn transposes() -> Vec<(&'static str, Call)> {
 fn sums() -> Vec<(&'static str, Call)> {
     let small = [1e-200, 0.0];
     let large: (u64, u64, &[f64]) = (1, 1, &[1e200]);
+    let huge: (u64, u64, &[f64]) = (1, 1, &[1e200, 0.0]);
     let old: (u64, u64, &[f64]) = (1, 1, &[0.0]);
     let row: (u64, u64, &[f64]) = (1, 2, &[1.0, 1.0]);
     let pairs: [(u64, u64, &[f64]); 3] = [(2, 1, &[1e8, 1.0]), (2, 1, &[5e7, 1.0]), old];
@@ -85,6 +86,7 @@ fn sums() -> Vec<(&'static str, Call)> {
         ("gemm-alpha-place", call(Gemm, F64, &[0, 0], small, ZERO, &[large, large, old])),
         ("symm-alpha-place", call(Symm, F64, &[0, 0], small, ZERO, &[large, large, old])),
         ("trmm-alpha-place", call(Trmm, F64, &[0; 4], small, NONE, &[large, large])),
+        ("her2k-alpha-place", call(Her2k, Complex, &[0, 0], small, ZERO, &[huge, huge, (1, 1, &ZERO)])),
         ("gemv-order", call(Gemv, F64, &[0], ONE, ONE, &[row, (2, 1, &[1.0, 1.0]), (1, 1, &[1e16])])),
         ("gemm-order", call(Gemm, F64, &[0, 0], ONE, ONE, &[row, (2, 1, &[1.0, 1.0]), (1, 1, &[1e16])])),
         ("syr2k-order", call(Syr2k, F64, &[0, 1], ONE, ZERO, &pairs)),

@@ -133,3 +133,35 @@ pub fn nth(seed: u64, n: u64) -> Call {
     }
     call(&mut rng, routine, kind, &flags, &plan)
 }
+
+/// So many calls from a seed.
+pub fn many(calls: u64, seed: u64) -> impl Iterator<Item = Call> {
+    (0..calls).map(move |n| nth(seed, n))
+}
+
+/// Every view of at most 3 rows and columns, strides from -3 to 3, start below 5 and length below 7, as gemm's
+/// target: the product is empty and beta is 2, so that what doubles is what the view shows.
+pub fn every_small_view() -> impl Iterator<Item = Call> {
+    let sizes = [4, 4, 7, 7, 5, 7];
+    (0..sizes.iter().product()).map(move |n: u64| {
+        let mut rest = n;
+        let [rows, cols, row_stride, col_stride, start, length] = sizes.map(|size| {
+            let digit = rest % size;
+            rest /= size;
+            digit
+        });
+        let (row_stride, col_stride) = (row_stride as i64 - 3, col_stride as i64 - 3);
+        let kind = Kind::ALL[(n % 3) as usize];
+        let empty = |rows, cols| View { start: 0, rows, cols, row_stride: 1, col_stride: 1 };
+        let cells = length * kind.width() as u64;
+        Call {
+            routine: Routine::Gemm,
+            kind,
+            flags: vec![0, 0],
+            alpha: [kind.cell(1.0), 0],
+            beta: [kind.cell(2.0), 0],
+            views: vec![empty(rows, 0), empty(0, cols), View { start, rows, cols, row_stride, col_stride }],
+            slabs: vec![vec![], vec![], (1..=cells).map(|cell| kind.cell(cell as f64)).collect()],
+        }
+    })
+}

@@ -53,27 +53,32 @@ fn number(text: &str) -> u64 {
 /// Compares the C interface, where it is linked, and looks for each planted fault.
 #[cfg(reference)]
 fn compare(calls: u64, seed: u64) {
+    use oracle::generate::{every_small_view, many};
     use oracle::{answer, capi, compare, faults};
-    let report = if capi::linked() > 0 {
-        println!("the C interface, {} of 45 functions linked:", capi::linked());
-        compare::compare(capi::answer, calls, seed)
-    } else {
-        println!("the C interface is not linked; the oracle against itself:");
-        compare::compare(|call| Some(answer::answer(call)), calls, seed)
-    };
-    print!("{}", compare::show(&report));
+    let linked = capi::linked() > 0;
+    let candidate = if linked { capi::answer } else { |call: &mut oracle::call::Call| Some(answer::answer(call)) };
+    match linked {
+        true => println!("the C interface, {} of 45 functions linked", capi::linked()),
+        false => println!("the C interface is not linked; the oracle against itself"),
+    }
+    let mut bad = false;
+    for (name, report) in [
+        ("generated calls", compare::compare(candidate, many(calls, seed))),
+        ("every small view", compare::compare(candidate, every_small_view())),
+    ] {
+        print!("{name}:\n{}", compare::show(&report));
+        bad |= report.differences > 0;
+    }
     println!("planted faults:");
-    let mut missed = 0;
     for fault in &faults::FAULTS {
-        match compare::first_difference(fault.answer, calls, seed) {
+        let found = compare::first_difference(fault.answer, many(calls, seed));
+        bad |= found.is_none();
+        match found {
             Some((n, _)) => println!("  found at call {n}: {}", fault.name),
-            None => {
-                println!("  not found in {calls} calls: {}", fault.name);
-                missed += 1;
-            }
+            None => println!("  not found in {calls} calls: {}", fault.name),
         }
     }
-    if report.differences + missed > 0 {
+    if bad {
         std::process::exit(1);
     }
 }

@@ -5,21 +5,33 @@ use oracle::answer::answer;
 use oracle::compare::{compare, difference, first_difference};
 use oracle::faults::FAULTS;
 use oracle::format::{self, read_record};
+use oracle::generate::many;
 use oracle::list;
 
 const CALLS: u64 = 20_000;
 
 #[test]
 fn the_oracle_agrees_with_itself() {
-    let report = compare(|call| Some(answer(call)), CALLS, 11);
+    let report = compare(|call| Some(answer(call)), many(CALLS, 11));
     assert_eq!((report.total(), report.differences), (CALLS, 0));
     assert!(report.answers.iter().all(|&count| count > CALLS / 100), "{:?}", report.answers);
+}
+
+/// A view that fits and does not overlap shows as many elements as double.
+#[test]
+fn small_views_double_what_they_show() {
+    for mut call in oracle::generate::every_small_view() {
+        let before = call.target().to_vec();
+        let shown = call.views[2].rows * call.views[2].cols * call.kind.width() as u64;
+        let expected = if answer(&mut call) == 0 { shown } else { 0 };
+        assert_eq!(call.target().iter().zip(&before).filter(|(a, b)| a != b).count() as u64, expected);
+    }
 }
 
 #[test]
 fn generated_calls_find_each_planted_fault() {
     for fault in &FAULTS {
-        let found = first_difference(fault.answer, CALLS, 12);
+        let found = first_difference(fault.answer, many(CALLS, 12));
         assert!(found.is_some(), "{} is not found in {CALLS} calls", fault.name);
     }
 }
@@ -46,6 +58,7 @@ fn the_list_finds_each_planted_fault() {
 #[cfg(capi)]
 #[test]
 fn the_c_interface_agrees() {
-    let report = compare(oracle::capi::answer, CALLS, 13);
+    use oracle::generate::every_small_view;
+    let report = compare(oracle::capi::answer, many(CALLS, 13).chain(every_small_view()));
     assert_eq!(report.first, None);
 }
