@@ -25,7 +25,7 @@ need-rt:
 	@command -v rt > /dev/null || { echo "rt is not found: install the Rattle kit (rattle-kit-5b) and put its bin/ on PATH" >&2; exit 1; }
 
 need-cargo:
-	@command -v cargo > /dev/null || { echo "cargo is not found: install Rust (https://rustup.rs)" >&2; exit 1; }
+	@command -v cargo > /dev/null || { echo "cargo is not found: install the Debian packages cargo and rustc" >&2; exit 1; }
 
 need-cc:
-	@command -v cc > /dev/null || { echo "cc is not found: install a C compiler, gcc or clang" >&2; exit 1; }
+	@command -v cc > /dev/null || { echo "cc is not found: install the Debian package gcc" >&2; exit 1; }

@@ -1,0 +1,79 @@
+//! The comparison: the oracle and a candidate on the same calls, by bits, NaNs alike, every slab whole.
+
+use crate::answer::answer;
+use crate::call::{Call, Routine};
+
+/// What a comparison found.
+pub struct Report {
+    /// Calls compared, by routine.
+    pub calls: [u64; 15],
+    /// Answers that the oracle gave.
+    pub answers: [u64; 6],
+    pub differences: u64,
+    /// The number of the first call that differs, and how.
+    pub first: Option<(u64, String)>,
+}
+
+impl Report {
+    pub fn total(&self) -> u64 {
+        self.calls.iter().sum()
+    }
+}
+
+/// How two outcomes of a call differ, if they do. The slabs that are only read are compared to the
+/// bit, NaNs too.
+pub fn difference(before: &Call, ours: (&Call, u8), theirs: (&Call, u8)) -> Option<String> {
+    let kind = before.kind;
+    if ours.1 != theirs.1 {
+        return Some(format!("answers {} for {}: {}", theirs.1, ours.1, before.show()));
+    }
+    let read = before.slabs.len() - 1;
+    if before.slabs[..read] != theirs.0.slabs[..read] {
+        return Some(format!("writes a slab that is only read: {}", before.show()));
+    }
+    let (target, other) = (ours.0.target(), theirs.0.target());
+    let same = target.len() == other.len() && target.iter().zip(other).all(|(&a, &b)| kind.same(a, b));
+    let numbers = |cells: &[u64]| cells.iter().map(|&cell| kind.number(cell)).collect::<Vec<_>>();
+    (!same).then(|| format!("leaves {:?} for {:?}: {}", numbers(other), numbers(target), before.show()))
+}
+
+/// Compares on the calls; a candidate that does not have a routine gives no answer.
+pub fn compare(candidate: fn(&mut Call) -> Option<u8>, calls: impl Iterator<Item = Call>) -> Report {
+    let mut report = Report { calls: [0; 15], answers: [0; 6], differences: 0, first: None };
+    for (n, before) in calls.enumerate() {
+        let mut theirs = before.clone();
+        let Some(their_answer) = candidate(&mut theirs) else { continue };
+        let mut ours = before.clone();
+        let our_answer = answer(&mut ours);
+        report.calls[before.routine as usize] += 1;
+        report.answers[usize::from(our_answer)] += 1;
+        if let Some(found) = difference(&before, (&ours, our_answer), (&theirs, their_answer)) {
+            report.differences += 1;
+            report.first.get_or_insert((n as u64, found));
+        }
+    }
+    report
+}
+
+/// The first of the calls on which the candidate differs.
+pub fn first_difference(candidate: fn(&mut Call) -> u8, calls: impl Iterator<Item = Call>) -> Option<(u64, String)> {
+    calls.enumerate().find_map(|(n, before)| {
+        let (mut ours, mut theirs) = (before.clone(), before.clone());
+        let (our_answer, their_answer) = (answer(&mut ours), candidate(&mut theirs));
+        difference(&before, (&ours, our_answer), (&theirs, their_answer)).map(|found| (n as u64, found))
+    })
+}
+
+/// The report in lines.
+pub fn show(report: &Report) -> String {
+    let mut text = String::new();
+    for routine in Routine::ALL.into_iter().filter(|&routine| report.calls[routine as usize] > 0) {
+        text += &format!("  {:6} {:9} calls\n", routine.name(), report.calls[routine as usize]);
+    }
+    text += &format!("  answers 0 to 5: {:?}\n", report.answers);
+    text += &format!("  {} calls compared, {} differ\n", report.total(), report.differences);
+    if let Some((n, found)) = &report.first {
+        text += &format!("  the first, call {n}, {found}\n");
+    }
+    text
+}
