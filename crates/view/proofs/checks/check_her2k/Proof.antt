@@ -1,0 +1,16 @@
+-- `check_her2k` meets its contract, by those of its parts.
+use borrow.Author.Needs.{needs}
+use Rattle.view.proofs.checks.check_her2k.Statement.{statement}
+use Rattle.view.proofs.checks.check_her2k.Tie as tie
+
+syr2k-requires : tie.Need-syr2k-requires
+syr2k-requires c κs = search needs
+
+judge3-requires : tie.Need-judge3-requires
+judge3-requires c κs = search needs
+
+returns : tie.Need-returns
+returns c = cc
+
+pub check-her2k-spec : {M : Type 1} → statement M
+check-her2k-spec = tie.close (tie.spec syr2k-requires judge3-requires returns)

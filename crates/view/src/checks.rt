@@ -1,0 +1,174 @@
+// The check of each routine: the answer that the refusals 1 to 4 give, or Done. Arguments in the Rust's order, each view with
+// the length of its slab in elements; flags that no shape rule looks at are left out.
+ghost use mathlib.Core.Path.{_≡_};
+ghost use mathlib.Core.Bool.{not};
+ghost use mathlib.Core.List.{[], _∷_};
+ghost use Rattle.view.specs.Refusals.{overlaps};
+ghost use Rattle.view.specs.Judge.{arg, judge, refuse};
+ghost use Rattle.view.specs.Checks as specs;
+use crate::Answer;
+use crate::Side;
+use crate::Trans;
+use crate::View;
+use crate::bounds::out_of_bounds;
+use crate::bounds::too_large;
+use crate::overlap::overlap;
+use crate::shapes;
+
+// Refusals 3 and 4.
+fn judge_shapes(shapes: bool, target: View) -> Answer
+    ensures { λ r. ⌜ r ≡ refuse (not shapes) Answer.ShapeMismatch (refuse (overlaps target) Answer.Overlap Answer.Done) ⌝ }
+{
+    if shapes {
+        if overlap(target) {
+            Answer::Overlap
+        } else {
+            Answer::Done
+        }
+    } else {
+        Answer::ShapeMismatch
+    }
+}
+
+// A call with two views, the second its target.
+fn judge2(a: View, la: usize, b: View, lb: usize, shapes: bool) -> Answer
+    ensures { λ r. ⌜ r ≡ judge (arg a la ∷ arg b lb ∷ []) shapes b ⌝ }
+{
+    if too_large(a) {
+        return Answer::TooLarge;
+    }
+    if too_large(b) {
+        return Answer::TooLarge;
+    }
+    if out_of_bounds(a, la) {
+        return Answer::OutOfBounds;
+    }
+    if out_of_bounds(b, lb) {
+        return Answer::OutOfBounds;
+    }
+    judge_shapes(shapes, b)
+}
+
+// A call with three views, the third its target.
+fn judge3(a: View, la: usize, b: View, lb: usize, c: View, lc: usize, shapes: bool) -> Answer
+    ensures { λ r. ⌜ r ≡ judge (arg a la ∷ arg b lb ∷ arg c lc ∷ []) shapes c ⌝ }
+{
+    if too_large(a) {
+        return Answer::TooLarge;
+    }
+    if too_large(b) {
+        return Answer::TooLarge;
+    }
+    if too_large(c) {
+        return Answer::TooLarge;
+    }
+    if out_of_bounds(a, la) {
+        return Answer::OutOfBounds;
+    }
+    if out_of_bounds(b, lb) {
+        return Answer::OutOfBounds;
+    }
+    if out_of_bounds(c, lc) {
+        return Answer::OutOfBounds;
+    }
+    judge_shapes(shapes, c)
+}
+
+pub fn check_gemv(t: Trans, a: View, la: usize, x: View, lx: usize, y: View, ly: usize) -> Answer
+    ensures { λ r. ⌜ r ≡ specs.gemvCheck t a la x lx y ly ⌝ }
+{
+    judge3(a, la, x, lx, y, ly, shapes::gemv(t, a, x, y))
+}
+
+pub fn check_hemv(a: View, la: usize, x: View, lx: usize, y: View, ly: usize) -> Answer
+    ensures { λ r. ⌜ r ≡ specs.hemvCheck a la x lx y ly ⌝ }
+{
+    judge3(a, la, x, lx, y, ly, shapes::hemv(a, x, y))
+}
+
+pub fn check_her(x: View, lx: usize, a: View, la: usize) -> Answer
+    ensures { λ r. ⌜ r ≡ specs.herCheck x lx a la ⌝ }
+{
+    judge2(x, lx, a, la, shapes::trmv(a, x))
+}
+
+pub fn check_her2(x: View, lx: usize, y: View, ly: usize, a: View, la: usize) -> Answer
+    ensures { λ r. ⌜ r ≡ specs.her2Check x lx y ly a la ⌝ }
+{
+    judge3(x, lx, y, ly, a, la, shapes::hemv(a, x, y))
+}
+
+pub fn check_trmv(a: View, la: usize, x: View, lx: usize) -> Answer
+    ensures { λ r. ⌜ r ≡ specs.trmvCheck a la x lx ⌝ }
+{
+    judge2(a, la, x, lx, shapes::trmv(a, x))
+}
+
+pub fn check_trsv(a: View, la: usize, x: View, lx: usize) -> Answer
+    ensures { λ r. ⌜ r ≡ specs.trsvCheck a la x lx ⌝ }
+{
+    judge2(a, la, x, lx, shapes::trmv(a, x))
+}
+
+pub fn check_gemm(
+    ta: Trans,
+    tb: Trans,
+    a: View,
+    la: usize,
+    b: View,
+    lb: usize,
+    c: View,
+    lc: usize,
+) -> Answer
+    ensures { λ r. ⌜ r ≡ specs.gemmCheck ta tb a la b lb c lc ⌝ }
+{
+    judge3(a, la, b, lb, c, lc, shapes::gemm(ta, tb, a, b, c))
+}
+
+pub fn check_symm(side: Side, a: View, la: usize, b: View, lb: usize, c: View, lc: usize) -> Answer
+    ensures { λ r. ⌜ r ≡ specs.symmCheck side a la b lb c lc ⌝ }
+{
+    judge3(a, la, b, lb, c, lc, shapes::symm(side, a, b, c))
+}
+
+pub fn check_hemm(side: Side, a: View, la: usize, b: View, lb: usize, c: View, lc: usize) -> Answer
+    ensures { λ r. ⌜ r ≡ specs.hemmCheck side a la b lb c lc ⌝ }
+{
+    judge3(a, la, b, lb, c, lc, shapes::symm(side, a, b, c))
+}
+
+pub fn check_syrk(t: Trans, a: View, la: usize, c: View, lc: usize) -> Answer
+    ensures { λ r. ⌜ r ≡ specs.syrkCheck t a la c lc ⌝ }
+{
+    judge2(a, la, c, lc, shapes::syrk(t, a, c))
+}
+
+pub fn check_herk(t: Trans, a: View, la: usize, c: View, lc: usize) -> Answer
+    ensures { λ r. ⌜ r ≡ specs.herkCheck t a la c lc ⌝ }
+{
+    judge2(a, la, c, lc, shapes::syrk(t, a, c))
+}
+
+pub fn check_syr2k(t: Trans, a: View, la: usize, b: View, lb: usize, c: View, lc: usize) -> Answer
+    ensures { λ r. ⌜ r ≡ specs.syr2kCheck t a la b lb c lc ⌝ }
+{
+    judge3(a, la, b, lb, c, lc, shapes::syr2k(t, a, b, c))
+}
+
+pub fn check_her2k(t: Trans, a: View, la: usize, b: View, lb: usize, c: View, lc: usize) -> Answer
+    ensures { λ r. ⌜ r ≡ specs.her2kCheck t a la b lb c lc ⌝ }
+{
+    judge3(a, la, b, lb, c, lc, shapes::syr2k(t, a, b, c))
+}
+
+pub fn check_trmm(side: Side, a: View, la: usize, b: View, lb: usize) -> Answer
+    ensures { λ r. ⌜ r ≡ specs.trmmCheck side a la b lb ⌝ }
+{
+    judge2(a, la, b, lb, shapes::trmm(side, a, b))
+}
+
+pub fn check_trsm(side: Side, a: View, la: usize, b: View, lb: usize) -> Answer
+    ensures { λ r. ⌜ r ≡ specs.trsmCheck side a la b lb ⌝ }
+{
+    judge2(a, la, b, lb, shapes::trmm(side, a, b))
+}
