@@ -34,10 +34,19 @@ abbrev pub refuse : Bool → Answer → Answer → Answer
 refuse true a later = a
 refuse false a later = later
 
+-- the lowest number met, by whether some view is too large, some is out of bounds, and the shapes are wrong
+abbrev pub lowestOf : Bool → Bool → Bool → View → Answer
+lowestOf large out wrong target =
+    refuse large TooLarge
+    (refuse out OutOfBounds
+    (refuse wrong ShapeMismatch
+    (refuse (overlaps target) Overlap Done)))
+
 -- a call's views in the order of its arguments, whether their shapes go together, and its target
 unfoldable pub judge : List Arg → Bool → View → Answer
 judge args shapes target =
-    refuse (anyOf (λ a. tooLarge (a .view)) args) TooLarge
-    (refuse (anyOf (λ a. outOfBounds (a .view) (a .len)) args) OutOfBounds
-    (refuse (not shapes) ShapeMismatch
-    (refuse (overlaps target) Overlap Done)))
+    lowestOf
+    (anyOf (λ a. tooLarge (a .view)) args)
+    (anyOf (λ a. outOfBounds (a .view) (a .len)) args)
+    (not shapes)
+    target

@@ -1,10 +1,9 @@
 // The check of each routine: the answer that the refusals 1 to 4 give, or Done. Arguments in the Rust's order, each view with
 // the length of its slab in elements; flags that no shape rule looks at are left out.
 ghost use mathlib.Core.Path.{_≡_};
-ghost use mathlib.Core.Bool.{not};
+ghost use mathlib.Core.Bool.{_||_, false};
 ghost use mathlib.Core.List.{[], _∷_};
-ghost use Rattle.view.specs.Refusals.{overlaps};
-ghost use Rattle.view.specs.Judge.{arg, judge, refuse};
+ghost use Rattle.view.specs.Judge.{arg, judge, lowestOf};
 ghost use Rattle.view.specs.Checks as specs;
 use crate::Answer;
 use crate::Side;
@@ -15,18 +14,33 @@ use crate::bounds::too_large;
 use crate::overlap::overlap;
 use crate::shapes;
 
-// Refusals 3 and 4.
-fn judge_shapes(shapes: bool, target: View) -> Answer
-    ensures { λ r. ⌜ r ≡ refuse (not shapes) Answer.ShapeMismatch (refuse (overlaps target) Answer.Overlap Answer.Done) ⌝ }
+// Whether one of two, and of three, tests passed.
+fn one_of_two(p: bool, q: bool) -> bool
+    ensures { λ r. ⌜ r ≡ p || (q || false) ⌝ }
 {
-    if shapes {
-        if overlap(target) {
-            Answer::Overlap
-        } else {
-            Answer::Done
-        }
-    } else {
+    if p { true } else { q }
+}
+
+fn one_of_three(p: bool, q: bool, r: bool) -> bool
+    ensures { λ s. ⌜ s ≡ p || (q || (r || false)) ⌝ }
+{
+    if p { true } else { one_of_two(q, r) }
+}
+
+// The lowest refusal met, by whether some view is too large, some is out of bounds, and the shapes are wrong.
+fn lowest(large: bool, out: bool, wrong: bool, target: View) -> Answer
+    ensures { λ r. ⌜ r ≡ lowestOf large out wrong target ⌝ }
+{
+    if large {
+        Answer::TooLarge
+    } else if out {
+        Answer::OutOfBounds
+    } else if wrong {
         Answer::ShapeMismatch
+    } else if overlap(target) {
+        Answer::Overlap
+    } else {
+        Answer::Done
     }
 }
 
@@ -34,44 +48,22 @@ fn judge_shapes(shapes: bool, target: View) -> Answer
 fn judge2(a: View, la: usize, b: View, lb: usize, shapes: bool) -> Answer
     ensures { λ r. ⌜ r ≡ judge (arg a la ∷ arg b lb ∷ []) shapes b ⌝ }
 {
-    if too_large(a) {
-        return Answer::TooLarge;
-    }
-    if too_large(b) {
-        return Answer::TooLarge;
-    }
-    if out_of_bounds(a, la) {
-        return Answer::OutOfBounds;
-    }
-    if out_of_bounds(b, lb) {
-        return Answer::OutOfBounds;
-    }
-    judge_shapes(shapes, b)
+    let large = one_of_two(too_large(a), too_large(b));
+    let out = one_of_two(out_of_bounds(a, la), out_of_bounds(b, lb));
+    lowest(large, out, !shapes, b)
 }
 
 // A call with three views, the third its target.
 fn judge3(a: View, la: usize, b: View, lb: usize, c: View, lc: usize, shapes: bool) -> Answer
     ensures { λ r. ⌜ r ≡ judge (arg a la ∷ arg b lb ∷ arg c lc ∷ []) shapes c ⌝ }
 {
-    if too_large(a) {
-        return Answer::TooLarge;
-    }
-    if too_large(b) {
-        return Answer::TooLarge;
-    }
-    if too_large(c) {
-        return Answer::TooLarge;
-    }
-    if out_of_bounds(a, la) {
-        return Answer::OutOfBounds;
-    }
-    if out_of_bounds(b, lb) {
-        return Answer::OutOfBounds;
-    }
-    if out_of_bounds(c, lc) {
-        return Answer::OutOfBounds;
-    }
-    judge_shapes(shapes, c)
+    let large = one_of_three(too_large(a), too_large(b), too_large(c));
+    let out = one_of_three(
+        out_of_bounds(a, la),
+        out_of_bounds(b, lb),
+        out_of_bounds(c, lc),
+    );
+    lowest(large, out, !shapes, c)
 }
 
 pub fn check_gemv(t: Trans, a: View, la: usize, x: View, lx: usize, y: View, ly: usize) -> Answer
@@ -107,7 +99,7 @@ pub fn check_trmv(a: View, la: usize, x: View, lx: usize) -> Answer
 pub fn check_trsv(a: View, la: usize, x: View, lx: usize) -> Answer
     ensures { λ r. ⌜ r ≡ specs.trsvCheck a la x lx ⌝ }
 {
-    judge2(a, la, x, lx, shapes::trmv(a, x))
+    check_trmv(a, la, x, lx)
 }
 
 pub fn check_gemm(
@@ -134,7 +126,7 @@ pub fn check_symm(side: Side, a: View, la: usize, b: View, lb: usize, c: View, l
 pub fn check_hemm(side: Side, a: View, la: usize, b: View, lb: usize, c: View, lc: usize) -> Answer
     ensures { λ r. ⌜ r ≡ specs.hemmCheck side a la b lb c lc ⌝ }
 {
-    judge3(a, la, b, lb, c, lc, shapes::symm(side, a, b, c))
+    check_symm(side, a, la, b, lb, c, lc)
 }
 
 pub fn check_syrk(t: Trans, a: View, la: usize, c: View, lc: usize) -> Answer
@@ -146,7 +138,7 @@ pub fn check_syrk(t: Trans, a: View, la: usize, c: View, lc: usize) -> Answer
 pub fn check_herk(t: Trans, a: View, la: usize, c: View, lc: usize) -> Answer
     ensures { λ r. ⌜ r ≡ specs.herkCheck t a la c lc ⌝ }
 {
-    judge2(a, la, c, lc, shapes::syrk(t, a, c))
+    check_syrk(t, a, la, c, lc)
 }
 
 pub fn check_syr2k(t: Trans, a: View, la: usize, b: View, lb: usize, c: View, lc: usize) -> Answer
@@ -158,7 +150,7 @@ pub fn check_syr2k(t: Trans, a: View, la: usize, b: View, lb: usize, c: View, lc
 pub fn check_her2k(t: Trans, a: View, la: usize, b: View, lb: usize, c: View, lc: usize) -> Answer
     ensures { λ r. ⌜ r ≡ specs.her2kCheck t a la b lb c lc ⌝ }
 {
-    judge3(a, la, b, lb, c, lc, shapes::syr2k(t, a, b, c))
+    check_syr2k(t, a, la, b, lb, c, lc)
 }
 
 pub fn check_trmm(side: Side, a: View, la: usize, b: View, lb: usize) -> Answer
@@ -170,5 +162,5 @@ pub fn check_trmm(side: Side, a: View, la: usize, b: View, lb: usize) -> Answer
 pub fn check_trsm(side: Side, a: View, la: usize, b: View, lb: usize) -> Answer
     ensures { λ r. ⌜ r ≡ specs.trsmCheck side a la b lb ⌝ }
 {
-    judge2(a, la, b, lb, shapes::trmm(side, a, b))
+    check_trmm(side, a, la, b, lb)
 }
