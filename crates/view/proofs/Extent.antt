@@ -1,20 +1,15 @@
 -- The quick bounds test: the last place of a view is below the slab's end and the first is no less than 0, exactly where every
 -- element is inside.
-use mathlib.Core.Path.{_≡_, refl, sym, _∙_, ap}
-use mathlib.Core.Bool.{Bool, true, false}
-use Prim.Native.Nat.{ℕ, zero, suc, _+_, _-_, _*_, _/_, _≤_, _<_, zero-le}
-use native.Mathlib.Nat.{mul-zero, zero-mul, mul-comm, le-refl, mul-le-mul-left, mul-le-mul-right, div-mul-le-self, div-lt-iff-lt-mul}
+use mathlib.Core.Path.{_≡_, refl, sym}
+use mathlib.Core.Bool.{false}
+use Prim.Native.Nat.{ℕ, suc, _+_, _-_, _*_, _/_, _≤_, _<_, zero-le}
+use native.Mathlib.Nat.{mul-zero, zero-mul, mul-comm, le-refl, mul-le-mul-right, div-mul-le-self, div-lt-iff-lt-mul}
 use native.Mathlib.Omega.{arith}
-use lib.Dec.{leb}
 use lib.IntN.{ℤ, pos, negsuc}
-use borrow.Author.Tests.{leb-true, le-leb, lt-leb}
 use Rattle.view.specs.declared.View.{View}
-use Rattle.view.specs.AnyLaws.{is-false, none}
-use Rattle.view.specs.Any.{any}
-use Rattle.view.specs.Place.{place}
-use Rattle.view.specs.Refusals.{outside, outOfBounds, Fits}
+use Rattle.view.specs.Refusals.{outOfBounds}
 use Rattle.view.specs.Steps.{up, down}
-use Rattle.view.specs.PlaceLaws.{Inside, fits→inside, inside→fits, at-fits}
+use Rattle.view.specs.PlaceLaws.{fits→inside, inside→fits, at-fits}
 
 -- among r ≤ a, one that goes all the way up and not down, and one the other way round
 record Far (z : ℤ) (a : ℕ) : Type 0 where

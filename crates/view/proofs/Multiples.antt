@@ -1,11 +1,11 @@
 -- The multiples of one stride against those of the other: where k * x = d * y, for k < rows and d < cols that are not both 0.
-use mathlib.Core.Path.{_≡_, refl, sym, _∙_, ap}
-use mathlib.Core.Bool.{Bool, true, false}
+use mathlib.Core.Path.{_≡_, sym, _∙_, ap}
+use mathlib.Core.Bool.{true, false}
 use Prim.Native.Nat.{ℕ, zero, suc, _+_, _-_, _*_, _/_, _%_, _≤_, _<_}
 use native.Mathlib.Nat.{zero-mul, one-mul, mul-pos, mul-le-mul-right, div-add-mod', mod-lt}
 use native.Mathlib.Decide.{decLt}
 use native.Mathlib.Omega.{arith}
-use Rattle.view.specs.AnyLaws.{both-ways, is-false}
+use Rattle.view.specs.AnyLaws.{both-ways}
 use Rattle.view.specs.Steps.{meets}
 use Rattle.view.specs.OverlapLaws.{Meeting, meets→meeting, meeting→meets, no-meeting}
 

@@ -1,18 +1,16 @@
 -- Each step of working out a place fits a signed integer of 64 bits.
-use mathlib.Core.Path.{_≡_, sym, _∙_, ap, subst}
-use Prim.Native.Nat.{ℕ, _+_, _*_, _^_, _≤_, _<_}
+use mathlib.Core.Path.{_≡_}
+use Prim.Native.Nat.{ℕ, _^_, _<_}
 use native.Mathlib.Nat.{zero-mul}
 use native.Mathlib.Omega.{arith}
-use lib.IntN.{ℤ, pos, _+ℤ_, _*ℤ_}
-use lib.Signed.{mag}
+use lib.IntN.{pos, _+ℤ_, _*ℤ_}
 use mir.Syntax.{w64}
 use mir.Val.{SFits}
 use Rattle.view.specs.declared.View.{View}
 use Rattle.view.specs.Place.{place, index}
-use Rattle.view.specs.Refusals.{limit}
-use Rattle.view.specs.Steps.{up, down, Accepted, Shown}
-use Rattle.view.specs.Signs.{Diff, diff-pos, diff-add, diff-steps, diff-mag}
-use Rattle.view.specs.PlaceLaws.{Inside, fits→inside, fits→place, diff-place}
+use Rattle.view.specs.Steps.{up, down, Shown}
+use Rattle.view.specs.Signs.{diff-pos, diff-add, diff-steps, diff-mag}
+use Rattle.view.specs.PlaceLaws.{fits→inside, fits→place, diff-place}
 
 pub record Sound (v : View) (r c : ℕ) : Type 0 where
   pub start-lt : v .start < 2 ^ 63

@@ -1,17 +1,17 @@
 -- A stride's parts and its steps, as machine integers work them out.
 use mathlib.Core.Path.{_≡_, refl, sym, _∙_, ap, subst}
 use mathlib.Core.Bool.{true, false}
-use Prim.Native.Nat.{ℕ, zero, suc, _+_, _-_, _*_, _^_, _≤_, _<_}
+use Prim.Native.Nat.{ℕ, suc, _+_, _^_, _≤_, _<_}
 use native.Mathlib.Omega.{arith}
-use lib.Dec.{T, ltb, lit<}
-use lib.IntN.{ℤ, pos, negsuc, natAbs, subℕ, _+ℤ_, _-ℤ_, _*ℤ_}
-use lib.Signed.{ltZ, nonNeg, mag}
+use lib.Dec.{T, ltb}
+use lib.IntN.{ℤ, pos, negsuc, natAbs, subℕ, _-ℤ_}
+use lib.Signed.{ltZ, nonNeg}
 use mir.Syntax.{w64}
 use mir.Val.{Fits, SFits}
-use borrow.Author.Tests.{ltb-true, ltb-false}
+use borrow.Author.Tests.{ltb-true}
 use Rattle.view.specs.AnyLaws.{clash}
 use Rattle.view.specs.Steps.{up, down}
-use Rattle.view.specs.Signs.{Diff, diff-of, diff-abs, diff-nat}
+use Rattle.view.specs.Signs.{diff-of, diff-abs, diff-nat}
 
 pub not-below-zero : (n : ℕ) → ltb n 0 ≡ true → ⊥
 not-below-zero n h = omega (arith, ltb-true n 0 h)

@@ -1,8 +1,8 @@
 -- What a passed check gives: every view is accepted, the shapes go together, and the target's elements are on distinct places.
-use mathlib.Core.Path.{_≡_, refl, sym, _∙_, ap, subst}
-use mathlib.Core.Bool.{Bool, true, false, not, _&&_, _||_}
+use mathlib.Core.Path.{_≡_, refl, _∙_, ap}
+use mathlib.Core.Bool.{Bool, true, false, not}
 use mathlib.Core.List.{List, [], _∷_}
-use Prim.Native.Nat.{ℕ, _≤_, _<_}
+use Prim.Native.Nat.{ℕ, _≤_}
 use native.Mathlib.Omega.{arith}
 use lib.Dec.{eqb, ltb}
 use borrow.Author.Tests.{ltb-false, le-ltb, eqb-true, not-false}
@@ -11,8 +11,7 @@ use Rattle.view.specs.declared.Answer.{Answer}
 use Rattle.view.specs.declared.Answer.the-variants.{Done, TooLarge, OutOfBounds, ShapeMismatch, Overlap}
 use Rattle.view.specs.declared.Trans.{Trans}
 use Rattle.view.specs.declared.Side.{Side}
-use Rattle.view.specs.AnyLaws.{or-false-left, or-false-right, or-none, and-left, and-right, is-false}
-use Rattle.view.specs.Place.{index}
+use Rattle.view.specs.AnyLaws.{or-false-left, or-false-right, or-none, and-left, and-right}
 use Rattle.view.specs.Refusals.{limit, tooLarge, outOfBounds, overlaps, isVector, vecLength}
 use Rattle.view.specs.Steps.{Accepted}
 use Rattle.view.specs.Judge.{Arg, anyOf, refuse, judge}

@@ -1,6 +1,6 @@
 -- Laws of `overlaps`: two elements share a place where some k steps of one stride reach as far as d steps of the other.
 use mathlib.Core.Path.{_≡_, refl, sym, _∙_, ap, subst}
-use mathlib.Core.Bool.{Bool, true, false, not, _&&_}
+use mathlib.Core.Bool.{true, false, not, _&&_}
 use mathlib.Core.Logic.{_⊎_, inl, inr, ⊎-elim}
 use Prim.Native.Nat.{ℕ, zero, suc, _+_, _-_, _*_, _≤_, _<_}
 use native.Mathlib.Nat.{mul-zero, zero-mul}
@@ -8,10 +8,10 @@ use native.Mathlib.Decide.{ℕ-discrete, decLe}
 use native.Mathlib.Omega.{arith}
 use lib.Dec.{eqb, ltb}
 use lib.IntN.{ℤ, pos, negsuc, natAbs}
-use borrow.Author.Tests.{ltb-true, lt-ltb, eqb-true, eq-eqb, ne-eqb, not-true}
+use borrow.Author.Tests.{ltb-true, lt-ltb, eqb-true, eq-eqb, not-true}
 use Rattle.view.specs.declared.View.{View}
 use Rattle.view.specs.Any.{any}
-use Rattle.view.specs.AnyLaws.{found₂, finds₂, is-false, clash, both-ways, and-left, and-right, and-both, and-no-left}
+use Rattle.view.specs.AnyLaws.{found₂, finds₂, is-false, clash, both-ways, and-left, and-right, and-both}
 use Rattle.view.specs.Place.{place, index}
 use Rattle.view.specs.Refusals.{eqZ, doubled, overlaps, Fits}
 use Rattle.view.specs.Steps.{up, down, meets}

@@ -1,14 +1,13 @@
 -- Laws of places: a place over the natural numbers, and what a view that fits gives whoever reads and writes through it.
-use mathlib.Core.Path.{_≡_, refl, sym, _∙_, ap, subst}
-use mathlib.Core.Bool.{Bool, true, false}
-use Prim.Native.Nat.{ℕ, zero, suc, _+_, _*_, _≤_, _<_}
+use mathlib.Core.Path.{_≡_, refl}
+use mathlib.Core.Bool.{false}
+use Prim.Native.Nat.{ℕ, suc, _+_, _*_, _≤_, _<_}
 use native.Mathlib.Omega.{arith}
-use lib.Dec.{leb}
-use lib.IntN.{ℤ, pos, negsuc, natAbs, _+ℤ_, _*ℤ_}
-use borrow.Author.Tests.{leb-true, leb-false, le-leb, lt-leb}
+use lib.IntN.{ℤ, pos, negsuc, _+ℤ_, _*ℤ_}
+use borrow.Author.Tests.{leb-false, lt-leb}
 use Rattle.view.specs.declared.View.{View}
 use Rattle.view.specs.Any.{any}
-use Rattle.view.specs.AnyLaws.{none, none-at, is-false, clash, finds₂, found₂}
+use Rattle.view.specs.AnyLaws.{none, none-at, clash}
 use Rattle.view.specs.Place.{place, index}
 use Rattle.view.specs.Refusals.{outside, outOfBounds, Fits}
 use Rattle.view.specs.Steps.{up, down}

@@ -1,6 +1,6 @@
 -- The conditions of refusals 1, 2 and 4 for one view, and what a vector is, in document 01's words: each goes over all the
 -- elements that it speaks of.
-use mathlib.Core.Bool.{Bool, true, false, not, cond, _&&_, _||_}
+use mathlib.Core.Bool.{Bool, true, false, not, _&&_, _||_}
 use mathlib.Core.Path.{_≡_}
 use Prim.Native.Nat.{ℕ, _*_}
 use lib.Dec.{leb, ltb, eqb}

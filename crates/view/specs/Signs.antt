@@ -1,8 +1,8 @@
 -- An integer as the difference of two natural numbers: `Diff z a b` says that z is a − b. It carries a place from the integers of
 -- its definition to natural numbers.
-use mathlib.Core.Path.{_≡_, refl, sym, _∙_, ap, subst}
-use mathlib.Core.Bool.{Bool, true, false, not, cond}
-use Prim.Native.Nat.{ℕ, zero, suc, _+_, _-_, _*_, _^_, _≤_, _<_}
+use mathlib.Core.Path.{_≡_, refl, ap}
+use mathlib.Core.Bool.{Bool, true, false, cond}
+use Prim.Native.Nat.{ℕ, zero, suc, _+_, _-_, _*_, _≤_, _<_}
 use native.Mathlib.Nat.{mul-zero}
 use native.Mathlib.Omega.{arith}
 use lib.Dec.{ltb}
@@ -91,12 +91,7 @@ pub diff-mag : (z : ℤ) {a b : ℕ} (h : ℕ) → Diff z a b → a < h + b → 
 diff-mag (pos k) h d p q = omega arith
 diff-mag (negsuc k) h d p q = omega arith
 
--- ---- one part of a stride is 0
-
-pub up-or-down : (z : ℤ) → (P : Type 0) → (up z ≡ 0 → P) → (down z ≡ 0 → P) → P
-up-or-down (pos n) P f g = g refl
-up-or-down (negsuc n) P f g = f refl
-
+-- a stride's size
 pub size-is : (z : ℤ) → natAbs z ≡ up z + down z
 size-is (pos n) = omega arith
 size-is (negsuc n) = omega arith

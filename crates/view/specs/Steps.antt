@@ -33,10 +33,3 @@ pub record Shown (v : View) (r c : ℕ) : Type 0 where
   pub accepted : Accepted v len
   pub row : r < v .rows
   pub col : c < v .cols
-
--- two strides that are not 0, y no more than an i64's size, of a view of at least two rows
-pub record Apart (rows x cols y : ℕ) : Type 0 where
-  pub x-pos : 0 < x
-  pub y-pos : 0 < y
-  pub y-le : y ≤ 2 ^ 63
-  pub cols-pos : 0 < cols

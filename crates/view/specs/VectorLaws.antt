@@ -2,20 +2,20 @@
 use mathlib.Core.Path.{_≡_, refl, sym, _∙_, ap, subst}
 use mathlib.Core.Bool.{Bool, true, false, cond, _||_}
 use Prim.Native.Nat.{ℕ, zero, suc, _+_, _*_, _≤_, _<_}
-use native.Mathlib.Nat.{mul-zero, zero-mul, mul-one, one-mul}
+use native.Mathlib.Nat.{mul-zero, mul-one}
 use native.Mathlib.Omega.{arith}
 use lib.Dec.{leb, lit≤}
 use lib.IntN.{ℤ, pos, natAbs, _+ℤ_, _*ℤ_, zero-*ℤ, +ℤ-idr}
-use borrow.Author.Tests.{leb-true, leb-false, le-leb, lt-leb}
+use borrow.Author.Tests.{leb-true, leb-false}
 use Rattle.view.specs.declared.View.{View}
 use Rattle.view.specs.declared.Coord.{Coord}
-use Rattle.view.specs.AnyLaws.{is-false, clash}
+use Rattle.view.specs.AnyLaws.{is-false}
 use Rattle.view.specs.Place.{place, index}
 use Rattle.view.specs.Refusals.{limit, outside, isVector, vecLength, overlaps, Fits}
 use Rattle.view.specs.Vector.{coordAt, vecCoord, vecStride, columnOf}
 use Rattle.view.specs.Steps.{Accepted}
 use Rattle.view.specs.PlaceLaws.{fits-at, at-fits}
-use Rattle.view.specs.OverlapLaws.{Doubled, overlaps→doubled, no-overlap→one}
+use Rattle.view.specs.OverlapLaws.{overlaps→doubled, no-overlap→one}
 
 -- how a vector lies: down a column, or along a row
 pub record Down (v : View) : Type 0 where

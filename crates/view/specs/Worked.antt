@@ -1,17 +1,17 @@
 -- Worked examples of document 01, by computing the definitions.
 use mathlib.Core.Path.{_≡_, refl}
-use mathlib.Core.Bool.{true, false}
-use mathlib.Core.List.{List, [], _∷_, map}
-use Prim.Native.Nat.{ℕ, suc}
+use mathlib.Core.Bool.{false}
+use mathlib.Core.List.{[], _∷_, map}
+use Prim.Native.Nat.{ℕ}
 use lib.IntN.{pos, negsuc}
 use lib.ListN.{getD}
 use Rattle.view.specs.declared.View.{View}
 use Rattle.view.specs.declared.Trans.the-variants.{NoTrans}
 use Rattle.view.specs.Any.{any}
 use Rattle.view.specs.Place.{place, index}
-use Rattle.view.specs.Refusals.{tooLarge, outOfBounds, overlaps, isVector}
+use Rattle.view.specs.Refusals.{tooLarge, outOfBounds, overlaps}
 use Rattle.view.specs.Judge.{answerNumber, judge}
-use Rattle.view.specs.Checks.{vectorOf, gemmShape, gemmCheck}
+use Rattle.view.specs.Checks.{gemmShape, gemmCheck}
 
 -- W1: start 2, 3 rows, 1 column, row stride −1
 reversed : View

@@ -1,10 +1,9 @@
 // Refusal 4: whether two elements of a view share a place.
 ghost use mathlib.Core.Path.{_≡_};
 ghost use Prim.Native.Nat.{_+_, _<_, _≤_, _^_};
-ghost use lib.Dec.{ltb};
 ghost use lib.IntN.{natAbs};
 ghost use Rattle.view.specs.Refusals.{overlaps};
-ghost use Rattle.view.specs.Steps.{meets, Apart};
+ghost use Rattle.view.specs.Steps.{meets};
 use crate::View;
 
 // The size of a stride.
@@ -16,7 +15,7 @@ fn size(z: i64) -> usize
 
 // Goes through the multiples k * x, each as quot * y + rem: it meets a multiple d * y, d < cols, where rem is 0.
 fn multiples_meet(rows: usize, x: usize, cols: usize, y: usize) -> bool
-    requires { ⌜ Apart rows x cols y ⌝ }
+    requires { ⌜ (0 < y) × (y ≤ 2 ^ 63) ⌝ }
     ensures { λ r. ⌜ r ≡ meets rows x cols y ⌝ }
 {
     let q = x / y;

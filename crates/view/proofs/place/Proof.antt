@@ -1,6 +1,6 @@
 -- `place` meets its contract. Each step fits, and what the machine reads back from its bits is the number of the formula.
 use mathlib.Core.Path.{_≡_, sym, ap, _∙_, subst}
-use Prim.Native.Nat.{ℕ, _^_, _<_}
+use Prim.Native.Nat.{_^_, _<_}
 use native.Mathlib.Omega.{arith}
 use lib.Dec.{T}
 use lib.IntN.{ℤ, pos, natAbs, _+ℤ_, _*ℤ_}
@@ -9,7 +9,7 @@ use mir.Syntax.{w64}
 use mir.Val.{Fits, SFits, toZ, ofZ}
 use mir.Facts.{toZ-ofZ}
 use mir.ValLaws.{toZ-pos}
-use Rattle.view.specs.Place.{place, index}
+use Rattle.view.specs.Place.{index}
 use Rattle.view.proofs.Placed.{Sound, sound}
 use Rattle.view.proofs.place.Statement.{statement}
 use Rattle.view.proofs.place.Tie as tie

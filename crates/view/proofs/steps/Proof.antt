@@ -1,7 +1,7 @@
 -- `steps` meets its contract. What the machine reads back from the bits of k and of the stride are those numbers.
 use borrow.Author.Needs.{needs}
-use mathlib.Core.Path.{_≡_, sym, ap, _∙_, subst}
-use lib.IntN.{ℤ, pos, _*ℤ_}
+use mathlib.Core.Path.{_≡_, sym, _∙_, subst}
+use lib.IntN.{pos, _*ℤ_}
 use mir.Syntax.{w64}
 use mir.Val.{SFits, toZ, ofZ}
 use mir.Facts.{toZ-ofZ}

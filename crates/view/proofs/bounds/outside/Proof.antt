@@ -1,13 +1,11 @@
 -- `outside` meets its contract: the last and the first place are inside exactly where every element is.
 use borrow.Author.Needs.{needs}
 use mathlib.Core.Path.{_≡_, sym, ap, _∙_}
-use mathlib.Core.Bool.{Bool, true, false}
-use Prim.Native.Nat.{ℕ, _+_, _-_, _*_}
+use Prim.Native.Nat.{_+_, _-_, _*_}
 use lib.Dec.{leb}
-use lib.IntN.{ℤ}
 use mir.Syntax.{w64}
 use mir.Facts.{toZ-ofZ}
-use borrow.Author.Tests.{leb-true, leb-false, le-leb}
+use borrow.Author.Tests.{leb-true, le-leb}
 use Rattle.view.specs.AnyLaws.{is-true, clash}
 use Rattle.view.specs.Refusals.{outOfBounds}
 use Rattle.view.specs.Steps.{up, down}

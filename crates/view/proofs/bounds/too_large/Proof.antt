@@ -1,5 +1,5 @@
 -- `too_large` meets its contract: the two tests are the definition's.
-use borrow.Author.Tests.{ltb-true, ltb-false, leb-true, leb-false, lt-ltb, le-ltb, le-leb, lt-leb, eq-eqb, ne-eqb}
+use borrow.Author.Tests.{lt-ltb, le-ltb}
 use Rattle.view.specs.Refusals.{limit, tooLarge}
 use Rattle.view.proofs.bounds.too_large.Statement.{statement}
 use Rattle.view.proofs.bounds.too_large.Tie as tie

@@ -1,6 +1,6 @@
 -- `judge2` meets its contract, by those of its parts.
 use borrow.Author.Needs.{needs}
-use mathlib.Core.Path.{_≡_, _∙_}
+use mathlib.Core.Path.{_∙_}
 use mathlib.Core.Bool.{false, not, _||_}
 use Rattle.view.specs.Judge.{judge, lowestOf}
 use Rattle.view.proofs.checks.judge2.Statement.{statement}

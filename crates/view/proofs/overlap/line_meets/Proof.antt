@@ -1,6 +1,5 @@
 -- `line_meets` meets its contract: of one line, two elements share a place where the stride is 0.
 use mathlib.Core.Path.{_≡_, ap, sym, _∙_}
-use mathlib.Core.Bool.{true}
 use Prim.Native.Nat.{ℕ, _*_, _<_}
 use native.Mathlib.Nat.{one-mul, mul-pos}
 use native.Mathlib.Omega.{arith}
@@ -8,7 +7,7 @@ use lib.Dec.{ltb}
 use borrow.Author.Tests.{ltb-true, lt-ltb}
 use Rattle.view.specs.AnyLaws.{both-ways}
 use Rattle.view.specs.Steps.{meets}
-use Rattle.view.specs.OverlapLaws.{Meeting, meets→meeting, meeting→meets}
+use Rattle.view.specs.OverlapLaws.{meets→meeting, meeting→meets}
 use Rattle.view.proofs.Multiples.{missing}
 use Rattle.view.proofs.overlap.line_meets.Statement.{statement}
 use Rattle.view.proofs.overlap.line_meets.Tie as tie

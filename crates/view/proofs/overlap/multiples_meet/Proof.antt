@@ -1,9 +1,6 @@
 -- `multiples_meet` meets its contract. The invariant is that k * x is quot * y + rem, and that no smaller multiple of x met one of y.
-use Prim.Native.Nat.{ℕ, _+_, _-_, _*_, _/_, _%_, _<_}
-use native.Mathlib.Nat.{mod-lt}
+use Prim.Native.Nat.{_-_, _/_, _%_}
 use native.Mathlib.Omega.{arith}
-use mathlib.Core.Path.{_∙_}
-use native.Mathlib.Nat.{add-zero}
 use Rattle.view.proofs.Multiples.{found, missing, At, first, past, past-next, carry, plain, none-meet}
 use Rattle.view.proofs.overlap.multiples_meet.Statement.{statement}
 use Rattle.view.proofs.overlap.multiples_meet.Tie as tie
@@ -15,20 +12,20 @@ abbrev μ-loop : tie.MeasureT-loop
 μ-loop rows x cols y q m k₀ quot₀ rem₀ k quot rem = rows - k
 
 div-q : tie.Need-div-q Inv-loop μ-loop
-div-q c = c .pre .y-pos
+div-q c = c .pre .0
 
 rem-m : tie.Need-rem-m Inv-loop μ-loop
-rem-m c = c .pre .y-pos
+rem-m c = c .pre .0
 
 loop-holds : tie.Need-loop-holds Inv-loop μ-loop
-loop-holds c = first (c .args .x) (c .args .cols) (c .args .y) (c .pre .y-pos)
+loop-holds c = first (c .args .x) (c .args .cols) (c .args .y) (c .pre .0)
 
 returns : tie.Need-returns Inv-loop μ-loop
 returns c =
     let a = c .before .before .before .args in
     let l = c .before .before .loop in
     missing (a .rows) (a .x) (a .cols) (a .y)
-    (none-meet (a .rows) (a .x) (a .cols) (a .y) (c .before .before .before .pre .y-pos) (λ j d s t. past (a .x) (a .cols) (a .y) (a .x / a .y) (a .x % a .y) (l .k) (l .quot) (l .rem) (l .inv) (c .if1 .taken) j d s))
+    (none-meet (a .rows) (a .x) (a .cols) (a .y) (c .before .before .before .pre .0) (λ j d s t. past (a .x) (a .cols) (a .y) (a .x / a .y) (a .x % a .y) (l .k) (l .quot) (l .rem) (l .inv) (c .if1 .taken) j d s))
 
 returns-2 : tie.Need-returns-2 Inv-loop μ-loop
 returns-2 c =
@@ -45,7 +42,7 @@ returns-3 c =
     let a = c .before .before .before .before .before .args in
     let l = c .before .before .before .before .loop in
     missing (a .rows) (a .x) (a .cols) (a .y)
-    (none-meet (a .rows) (a .x) (a .cols) (a .y) (c .before .before .before .before .before .pre .y-pos) (λ j d s t. past-next (a .x) (a .cols) (a .y) (a .x / a .y) (a .x % a .y) (l .k) (l .quot) (l .rem) (l .inv) (omega arith) (omega arith) j d s))
+    (none-meet (a .rows) (a .x) (a .cols) (a .y) (c .before .before .before .before .before .pre .0) (λ j d s t. past-next (a .x) (a .cols) (a .y) (a .x / a .y) (a .x % a .y) (l .k) (l .quot) (l .rem) (l .inv) (omega arith) (omega arith) j d s))
 
 add-k : tie.Need-add-k Inv-loop μ-loop
 add-k c = omega (arith, c .before .before .before .before .before .fits .rows .fits)
@@ -78,7 +75,7 @@ add-quot-3 : tie.Need-add-quot-3 Inv-loop μ-loop
 add-quot-3 c = omega (arith, c .before .before .before .before .before .before .fits .cols .fits)
 
 add-rem : tie.Need-add-rem Inv-loop μ-loop
-add-rem c = omega (arith, c .before .before .before .before .before .loop .inv .m-lt, c .before .before .before .before .before .before .pre .y-le)
+add-rem c = omega (arith, c .before .before .before .before .before .loop .inv .m-lt, c .before .before .before .before .before .before .pre .1)
 
 loop-less-2 : tie.Need-loop-less-2 Inv-loop μ-loop
 loop-less-2 c = omega arith
@@ -94,7 +91,7 @@ returns-4 c =
     let a = c .before .before .args in
     let l = c .before .loop in
     missing (a .rows) (a .x) (a .cols) (a .y)
-    (none-meet (a .rows) (a .x) (a .cols) (a .y) (c .before .before .pre .y-pos) (λ j d s t u. l .inv .none j d s (omega arith) u))
+    (none-meet (a .rows) (a .x) (a .cols) (a .y) (c .before .before .pre .0) (λ j d s t u. l .inv .none j d s (omega arith) u))
 
 pub multiples-meet-spec : {M : Type 1} → statement M
 multiples-meet-spec =

@@ -1,6 +1,6 @@
 -- `size` meets its contract: a stride's size is its two parts together, of which one is 0.
 use borrow.Author.Needs.{needs}
-use mathlib.Core.Path.{_≡_, ap, sym, _∙_}
+use mathlib.Core.Path.{ap, _∙_}
 use native.Mathlib.Omega.{arith}
 use mir.Facts.{toZ-ofZ}
 use Rattle.view.specs.Steps.{up, down}
