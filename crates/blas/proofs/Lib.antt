@@ -1,0 +1,3 @@
+-- Laws of what the definitions share, over any number kind.
+pub mod SumLaws
+pub mod OutcomeLaws

@@ -1,0 +1,10 @@
+-- The BLAS routines, each in a file of its own, for any number kind. Matrix has what they share, Outcome what a call answers and leaves.
+pub mod Matrix
+pub mod Outcome
+pub mod Gemv
+pub mod Hemv
+pub mod Gemm
+pub mod Symm
+pub mod Hemm
+pub mod Syrk
+pub mod Herk

@@ -1,0 +1,1 @@
+// The definitions of the BLAS routines stand in specs/; there is no code here.

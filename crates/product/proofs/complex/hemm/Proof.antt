@@ -1,0 +1,41 @@
+use mathlib.Core.Path.{_∙_, ap, refl}
+use borrow.Author.Needs.{needs}
+use Rattle.number.specs.Kind.{complex}
+use Rattle.number.specs.Scaling.{scaleByComplex}
+use Rattle.number.proofs.ScalingLaws.{scale-complex}
+use Rattle.product.proofs.Kernels.{hemm-refused, hemm-runs, hemm-done}
+use Rattle.product.proofs.complex.hemm.Statement.{statement}
+use Rattle.product.proofs.complex.hemm.Tie as tie
+
+check-hemm-requires : tie.Need-check-hemm-requires
+check-hemm-requires c κs = tt
+
+passed-requires : tie.Need-passed-requires
+passed-requires c κs = tt
+
+judge-requires : tie.Need-judge-requires
+judge-requires c κs = tt
+
+sided-requires : tie.Need-sided-requires
+sided-requires c κs = hemm-runs _ _ _ _ _ _ _ _ _ _ (c .before .before .before .before .check-hemm .ensures) (c .before .before .before .passed .ensures) (c .before .before .if1 .taken)
+
+same-length : tie.Need-same-length
+same-length c = search needs
+
+returns : tie.Need-returns
+returns c = hemm-done complex _ _ _ _ _ _ _ _ _ (c .before .before .before .before .before .before .before .check-hemm .ensures) (c .before .before .before .before .before .before .passed .ensures) (c .before .before .before .before .before .if1 .taken) _ _ _ (ap scaleByComplex (c .before .before .before .before .judge .ensures) ∙ scale-complex _) refl (c .before .before .sided .ensures)
+
+returns-2 : tie.Need-returns-2
+returns-2 c = hemm-refused complex _ _ _ _ _ _ _ _ _ (c .before .before .check-hemm .ensures) (c .before .passed .ensures) (c .if1 .left)
+
+pub hemm-spec : {M : Type 1} → statement M
+hemm-spec =
+    tie.close
+    (tie.spec
+    check-hemm-requires
+    passed-requires
+    judge-requires
+    sided-requires
+    same-length
+    returns
+    returns-2)

@@ -1,0 +1,45 @@
+use mathlib.Core.Path.{_∙_, ap, refl}
+use borrow.Author.Needs.{needs}
+use Rattle.number.specs.Kind.{complex}
+use Rattle.number.specs.Scaling.{scaleByComplex}
+use Rattle.number.proofs.ScalingLaws.{scale-real}
+use Rattle.product.proofs.Kernels.{herk-refused, herk-runs, herk-done}
+use Rattle.product.proofs.complex.herk.Statement.{statement}
+use Rattle.product.proofs.complex.herk.Tie as tie
+
+check-herk-requires : tie.Need-check-herk-requires
+check-herk-requires c κs = tt
+
+passed-requires : tie.Need-passed-requires
+passed-requires c κs = tt
+
+herk-plan-requires : tie.Need-herk-plan-requires
+herk-plan-requires c κs = tt
+
+judge-real-requires : tie.Need-judge-real-requires
+judge-real-requires c κs = tt
+
+run-requires : tie.Need-run-requires
+run-requires c κs = herk-runs _ _ _ _ _ _ _ _ (c .before .before .before .before .before .check-herk .ensures) (c .before .before .before .before .passed .ensures) (c .before .before .before .if1 .taken) _ (c .before .before .herk-plan .ensures)
+
+same-length : tie.Need-same-length
+same-length c = search needs
+
+returns : tie.Need-returns
+returns c = herk-done complex _ _ _ _ _ _ _ _ (c .before .before .before .before .before .before .before .before .check-herk .ensures) (c .before .before .before .before .before .before .before .passed .ensures) (c .before .before .before .before .before .before .if1 .taken) _ _ _ _ (c .before .before .before .before .before .herk-plan .ensures) (ap scaleByComplex (c .before .before .before .before .judge-real .ensures) ∙ scale-real _) refl (c .before .before .run .ensures)
+
+returns-2 : tie.Need-returns-2
+returns-2 c = herk-refused complex _ _ _ _ _ _ _ _ (c .before .before .check-herk .ensures) (c .before .passed .ensures) (c .if1 .left)
+
+pub herk-spec : {M : Type 1} → statement M
+herk-spec =
+    tie.close
+    (tie.spec
+    check-herk-requires
+    passed-requires
+    herk-plan-requires
+    judge-real-requires
+    run-requires
+    same-length
+    returns
+    returns-2)

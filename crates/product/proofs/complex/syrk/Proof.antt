@@ -1,0 +1,45 @@
+use mathlib.Core.Path.{_∙_, ap, refl}
+use borrow.Author.Needs.{needs}
+use Rattle.number.specs.Kind.{complex}
+use Rattle.number.specs.Scaling.{scaleByComplex}
+use Rattle.number.proofs.ScalingLaws.{scale-complex}
+use Rattle.product.proofs.Kernels.{syrk-refused, syrk-runs, syrk-done}
+use Rattle.product.proofs.complex.syrk.Statement.{statement}
+use Rattle.product.proofs.complex.syrk.Tie as tie
+
+check-syrk-requires : tie.Need-check-syrk-requires
+check-syrk-requires c κs = tt
+
+passed-requires : tie.Need-passed-requires
+passed-requires c κs = tt
+
+syrk-plan-requires : tie.Need-syrk-plan-requires
+syrk-plan-requires c κs = tt
+
+judge-requires : tie.Need-judge-requires
+judge-requires c κs = tt
+
+run-requires : tie.Need-run-requires
+run-requires c κs = syrk-runs _ _ _ _ _ _ _ _ (c .before .before .before .before .before .check-syrk .ensures) (c .before .before .before .before .passed .ensures) (c .before .before .before .if1 .taken) _ (c .before .before .syrk-plan .ensures)
+
+same-length : tie.Need-same-length
+same-length c = search needs
+
+returns : tie.Need-returns
+returns c = syrk-done complex _ _ _ _ _ _ _ _ (c .before .before .before .before .before .before .before .before .check-syrk .ensures) (c .before .before .before .before .before .before .before .passed .ensures) (c .before .before .before .before .before .before .if1 .taken) _ _ _ _ (c .before .before .before .before .before .syrk-plan .ensures) (ap scaleByComplex (c .before .before .before .before .judge .ensures) ∙ scale-complex _) refl (c .before .before .run .ensures)
+
+returns-2 : tie.Need-returns-2
+returns-2 c = syrk-refused complex _ _ _ _ _ _ _ _ (c .before .before .check-syrk .ensures) (c .before .passed .ensures) (c .if1 .left)
+
+pub syrk-spec : {M : Type 1} → statement M
+syrk-spec =
+    tie.close
+    (tie.spec
+    check-syrk-requires
+    passed-requires
+    syrk-plan-requires
+    judge-requires
+    run-requires
+    same-length
+    returns
+    returns-2)

@@ -1,0 +1,49 @@
+use native.Mathlib.Omega.{arith}
+use denote.Ref.{now}
+use borrow.Author.Needs.{needs}
+use Rattle.number.specs.Scaling.{scaleBy32}
+use Rattle.number.specs.Kind.{real32}
+use Rattle.product.proofs.Laws.{target-shown, target-inside, entry-put}
+use Rattle.product.proofs.real32.entry.Statement.{statement}
+use Rattle.product.proofs.real32.entry.Tie as tie
+
+dot-requires : tie.Need-dot-requires
+dot-requires c κs = c .before .before .before .pre .ready .factors _ _ (c .before .before .before .pre .row) (c .before .before .before .pre .col)
+
+place-requires : tie.Need-place-requires
+place-requires c κs = target-shown _ _ _ _ _ _ (c .before .before .before .before .pre) (omega arith)
+
+get32-requires : tie.Need-get32-requires
+get32-requires c κs = omega (arith, target-inside _ _ _ _ _ _ (c .before .before .before .before .before .before .pre), c .before .place .ensures)
+
+scale-requires : tie.Need-scale-requires
+scale-requires c κs = tt
+
+mul-requires : tie.Need-mul-requires
+mul-requires c κs = tt
+
+add-requires : tie.Need-add-requires
+add-requires c κs = tt
+
+put32-requires : tie.Need-put32-requires
+put32-requires c κs = omega (arith, target-inside _ _ _ _ _ _ (c .before .before .before .before .before .before .before .before .before .before .before .pre), c .before .before .before .before .before .before .place .ensures)
+
+same-length : tie.Need-same-length
+same-length c = search needs
+
+returns : tie.Need-returns
+returns c = let p = c .before .before .before .before .before .before .before .before .before .before .before .before .before .before .args in entry-put real32 (p .plan) (scaleBy32 (p .beta)) (real32 .mul (p .alpha .0)) (now (p .a)) (now (p .b)) (now (p .c)) (p .i) (p .j) _ _ _ _ _ _ _ (c .before .before .before .before .before .before .before .before .before .before .dot .ensures) (c .before .before .before .before .before .before .before .before .before .place .ensures) (c .before .before .before .before .before .before .before .get32 .ensures) (c .before .before .before .before .before .scale .ensures) (c .before .before .before .before .mul .ensures) (c .before .before .before .add .ensures) (c .before .before .put32 .ensures)
+
+pub entry-spec : {M : Type 1} → statement M
+entry-spec =
+    tie.close
+    (tie.spec
+    dot-requires
+    place-requires
+    get32-requires
+    scale-requires
+    mul-requires
+    add-requires
+    put32-requires
+    same-length
+    returns)

@@ -1,0 +1,45 @@
+use mathlib.Core.Path.{_∙_, ap, refl}
+use borrow.Author.Needs.{needs}
+use Rattle.number.specs.Kind.{real32}
+use Rattle.number.specs.Scaling.{scaleBy32}
+use Rattle.number.proofs.ScalingLaws.{scale32}
+use Rattle.product.proofs.Kernels.{gemm-refused, gemm-runs, gemm-done}
+use Rattle.product.proofs.real32.gemm.Statement.{statement}
+use Rattle.product.proofs.real32.gemm.Tie as tie
+
+check-gemm-requires : tie.Need-check-gemm-requires
+check-gemm-requires c κs = tt
+
+passed-requires : tie.Need-passed-requires
+passed-requires c κs = tt
+
+gemm-plan-requires : tie.Need-gemm-plan-requires
+gemm-plan-requires c κs = tt
+
+judge-requires : tie.Need-judge-requires
+judge-requires c κs = tt
+
+run-requires : tie.Need-run-requires
+run-requires c κs = gemm-runs _ _ _ _ _ _ _ _ _ _ (c .before .before .before .before .before .check-gemm .ensures) (c .before .before .before .before .passed .ensures) (c .before .before .before .if1 .taken) _ (c .before .before .gemm-plan .ensures)
+
+same-length : tie.Need-same-length
+same-length c = search needs
+
+returns : tie.Need-returns
+returns c = gemm-done real32 _ _ _ _ _ _ _ _ _ (c .before .before .before .before .before .before .before .before .check-gemm .ensures) (c .before .before .before .before .before .before .before .passed .ensures) (c .before .before .before .before .before .before .if1 .taken) _ _ _ _ (c .before .before .before .before .before .gemm-plan .ensures) (ap scaleBy32 (c .before .before .before .before .judge .ensures) ∙ scale32 _) refl (c .before .before .run .ensures)
+
+returns-2 : tie.Need-returns-2
+returns-2 c = gemm-refused real32 _ _ _ _ _ _ _ _ _ (c .before .before .check-gemm .ensures) (c .before .passed .ensures) (c .if1 .left)
+
+pub gemm-spec : {M : Type 1} → statement M
+gemm-spec =
+    tie.close
+    (tie.spec
+    check-gemm-requires
+    passed-requires
+    gemm-plan-requires
+    judge-requires
+    run-requires
+    same-length
+    returns
+    returns-2)

@@ -1,0 +1,45 @@
+use mathlib.Core.Path.{_∙_, ap, refl}
+use borrow.Author.Needs.{needs}
+use Rattle.number.specs.Kind.{real32}
+use Rattle.number.specs.Scaling.{scaleBy32}
+use Rattle.number.proofs.ScalingLaws.{scale32}
+use Rattle.product.proofs.Kernels.{hemv-refused, hemv-vectors, hemv-runs, hemv-done}
+use Rattle.product.proofs.real32.hemv.Statement.{statement}
+use Rattle.product.proofs.real32.hemv.Tie as tie
+
+check-hemv-requires : tie.Need-check-hemv-requires
+check-hemv-requires c κs = tt
+
+passed-requires : tie.Need-passed-requires
+passed-requires c κs = tt
+
+hemv-plan-requires : tie.Need-hemv-plan-requires
+hemv-plan-requires c κs = hemv-vectors (c .before .before .before .before .before .before .args .uplo) _ _ _ _ _ _ _ _ (c .before .before .check-hemv .ensures) (c .before .passed .ensures) (c .if1 .taken)
+
+judge-requires : tie.Need-judge-requires
+judge-requires c κs = tt
+
+run-requires : tie.Need-run-requires
+run-requires c κs = hemv-runs _ _ _ _ _ _ _ _ _ (c .before .before .before .before .before .check-hemv .ensures) (c .before .before .before .before .passed .ensures) (c .before .before .before .if1 .taken) _ (c .before .before .hemv-plan .ensures)
+
+same-length : tie.Need-same-length
+same-length c = search needs
+
+returns : tie.Need-returns
+returns c = hemv-done real32 _ _ _ _ _ _ _ _ (c .before .before .before .before .before .before .before .before .check-hemv .ensures) (c .before .before .before .before .before .before .before .passed .ensures) (c .before .before .before .before .before .before .if1 .taken) _ _ _ _ (c .before .before .before .before .before .hemv-plan .ensures) (ap scaleBy32 (c .before .before .before .before .judge .ensures) ∙ scale32 _) refl (c .before .before .run .ensures)
+
+returns-2 : tie.Need-returns-2
+returns-2 c = hemv-refused real32 _ _ _ _ _ _ _ _ (c .before .before .check-hemv .ensures) (c .before .passed .ensures) (c .if1 .left)
+
+pub hemv-spec : {M : Type 1} → statement M
+hemv-spec =
+    tie.close
+    (tie.spec
+    check-hemv-requires
+    passed-requires
+    hemv-plan-requires
+    judge-requires
+    run-requires
+    same-length
+    returns
+    returns-2)

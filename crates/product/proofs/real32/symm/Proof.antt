@@ -1,0 +1,41 @@
+use mathlib.Core.Path.{_∙_, ap, refl}
+use borrow.Author.Needs.{needs}
+use Rattle.number.specs.Kind.{real32}
+use Rattle.number.specs.Scaling.{scaleBy32}
+use Rattle.number.proofs.ScalingLaws.{scale32}
+use Rattle.product.proofs.Kernels.{symm-refused, symm-runs, symm-done}
+use Rattle.product.proofs.real32.symm.Statement.{statement}
+use Rattle.product.proofs.real32.symm.Tie as tie
+
+check-symm-requires : tie.Need-check-symm-requires
+check-symm-requires c κs = tt
+
+passed-requires : tie.Need-passed-requires
+passed-requires c κs = tt
+
+judge-requires : tie.Need-judge-requires
+judge-requires c κs = tt
+
+sided-requires : tie.Need-sided-requires
+sided-requires c κs = symm-runs _ _ _ _ _ _ _ _ _ _ (c .before .before .before .before .check-symm .ensures) (c .before .before .before .passed .ensures) (c .before .before .if1 .taken)
+
+same-length : tie.Need-same-length
+same-length c = search needs
+
+returns : tie.Need-returns
+returns c = symm-done real32 _ _ _ _ _ _ _ _ _ (c .before .before .before .before .before .before .before .check-symm .ensures) (c .before .before .before .before .before .before .passed .ensures) (c .before .before .before .before .before .if1 .taken) _ _ _ (ap scaleBy32 (c .before .before .before .before .judge .ensures) ∙ scale32 _) refl (c .before .before .sided .ensures)
+
+returns-2 : tie.Need-returns-2
+returns-2 c = symm-refused real32 _ _ _ _ _ _ _ _ _ (c .before .before .check-symm .ensures) (c .before .passed .ensures) (c .if1 .left)
+
+pub symm-spec : {M : Type 1} → statement M
+symm-spec =
+    tie.close
+    (tie.spec
+    check-symm-requires
+    passed-requires
+    judge-requires
+    sided-requires
+    same-length
+    returns
+    returns-2)

@@ -1,0 +1,3 @@
+-- The laws of the fold that replaces shown elements.
+pub mod UpdateLaws
+pub mod LoopLaws

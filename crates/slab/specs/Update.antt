@@ -1,0 +1,53 @@
+-- The elements that a view shows, replaced in place: by rows, each by rising column. Element (i, j) becomes `u i j` of itself
+-- where `mask i j` admits it, and stays otherwise.
+use Prim.Native.Nat.{ℕ, zero, suc}
+use mathlib.Core.Bool.{Bool, true, cond, _&&_, _||_}
+use mathlib.Core.List.{List}
+use lib.Dec.{ltb, eqb}
+use Rattle.number.specs.Kind.{Kind}
+use Rattle.view.specs.declared.View.{View}
+use Rattle.view.specs.Place.{index}
+use Rattle.slab.specs.Elem.{elem}
+
+-- which elements are written
+abbrev pub Mask : Type 0
+Mask = ℕ → ℕ → Bool
+
+abbrev pub everywhere : Mask
+everywhere i j = true
+
+-- what becomes of an element
+abbrev pub Change : Kind → Type 0
+Change K = ℕ → ℕ → K .Elem → K .Elem
+
+-- element (i, j)
+unfoldable pub step : (K : Kind) → View → Mask → Change K → ℕ → ℕ → List (K .Cell) → List (K .Cell)
+step K v mask u i j s = cond (mask i j) (K .put s (index v i j) (u i j (elem K s v i j))) s
+
+-- the first n elements of row i
+unfoldable pub row : (K : Kind) → View → Mask → Change K → ℕ → ℕ → List (K .Cell) → List (K .Cell)
+row K v mask u i zero s = s
+row K v mask u i (suc j) s = step K v mask u i j (row K v mask u i j s)
+
+-- the first m rows
+unfoldable pub rows : (K : Kind) → View → Mask → Change K → ℕ → List (K .Cell) → List (K .Cell)
+rows K v mask u zero s = s
+rows K v mask u (suc i) s = row K v mask u i (v .cols) (rows K v mask u i s)
+
+-- every element
+abbrev pub update : (K : Kind) → View → Mask → Change K → List (K .Cell) → List (K .Cell)
+update K v mask u s = rows K v mask u (v .rows) s
+
+-- ---- the fold on its way
+
+-- (r, c) comes before (i, j): in an earlier row, or earlier in the row
+abbrev pub before : ℕ → ℕ → ℕ → ℕ → Bool
+before r c i j = ltb r i || (eqb r i && ltb c j)
+
+-- the elements of a mask that come before (i, j)
+abbrev pub first : ℕ → ℕ → Mask → Mask
+first i j mask r c = before r c i j && mask r c
+
+-- the elements before (i, j) done, and no other
+abbrev pub prefix : (K : Kind) → View → Mask → Change K → ℕ → ℕ → List (K .Cell) → List (K .Cell)
+prefix K v mask u i j s = row K v mask u i j (rows K v mask u i s)

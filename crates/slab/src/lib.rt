@@ -1,0 +1,56 @@
+// Element access to a lent slab, for each number kind.
+
+ghost use mathlib.Core.Path.{_≡_};
+ghost use Prim.Native.Nat.{_<_};
+ghost use Rattle.number.specs.Kind.{real64, real32, complex};
+use number::Complex;
+use number::Real32;
+use number::Real64;
+
+// Element k of a slab.
+pub fn get64(s: &[f64], k: usize) -> Real64
+    requires { ⌜ k < real64 .count (now s) ⌝ }
+    ensures { λ r. ⌜ r .0 ≡ real64 .at (now (s .entry)) k ⌝ }
+{
+    Real64(s[k])
+}
+
+pub fn get32(s: &[f32], k: usize) -> Real32
+    requires { ⌜ k < real32 .count (now s) ⌝ }
+    ensures { λ r. ⌜ r .0 ≡ real32 .at (now (s .entry)) k ⌝ }
+{
+    Real32(s[k])
+}
+
+pub fn get_complex(s: &[f64], k: usize) -> Complex
+    requires { ⌜ k < complex .count (now s) ⌝ }
+    ensures { λ r. ⌜ r ≡ complex .at (now (s .entry)) k ⌝ }
+{
+    Complex {
+        re: s[2 * k],
+        im: s[2 * k + 1],
+    }
+}
+
+// Element k replaced.
+pub fn put64(s: &mut [f64], k: usize, x: Real64)
+    requires { ⌜ k < real64 .count (now s) ⌝ }
+    ensures { λ _. ⌜ now (s .exit) ≡ real64 .put (now (s .entry)) k (x .0) ⌝ }
+{
+    s[k] = x.0;
+}
+
+pub fn put32(s: &mut [f32], k: usize, x: Real32)
+    requires { ⌜ k < real32 .count (now s) ⌝ }
+    ensures { λ _. ⌜ now (s .exit) ≡ real32 .put (now (s .entry)) k (x .0) ⌝ }
+{
+    s[k] = x.0;
+}
+
+pub fn put_complex(s: &mut [f64], k: usize, x: Complex)
+    requires { ⌜ k < complex .count (now s) ⌝ }
+    ensures { λ _. ⌜ now (s .exit) ≡ complex .put (now (s .entry)) k x ⌝ }
+{
+    s[2 * k] = x.re;
+    s[2 * k + 1] = x.im;
+}

@@ -1,0 +1,16 @@
+-- `check_gemv` meets its contract, by those of its parts.
+use borrow.Author.Needs.{needs}
+use Rattle.view.proofs.checks.check_gemv.Statement.{statement}
+use Rattle.view.proofs.checks.check_gemv.Tie as tie
+
+gemv-requires : tie.Need-gemv-requires
+gemv-requires c κs = search needs
+
+judge3-requires : tie.Need-judge3-requires
+judge3-requires c κs = search needs
+
+returns : tie.Need-returns
+returns c = cc
+
+pub check-gemv-spec : {M : Type 1} → statement M
+check-gemv-spec = tie.close (tie.spec gemv-requires judge3-requires returns)

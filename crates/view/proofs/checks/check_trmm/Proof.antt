@@ -1,0 +1,16 @@
+-- `check_trmm` meets its contract, by those of its parts.
+use borrow.Author.Needs.{needs}
+use Rattle.view.proofs.checks.check_trmm.Statement.{statement}
+use Rattle.view.proofs.checks.check_trmm.Tie as tie
+
+trmm-requires : tie.Need-trmm-requires
+trmm-requires c κs = search needs
+
+judge2-requires : tie.Need-judge2-requires
+judge2-requires c κs = search needs
+
+returns : tie.Need-returns
+returns c = cc
+
+pub check-trmm-spec : {M : Type 1} → statement M
+check-trmm-spec = tie.close (tie.spec trmm-requires judge2-requires returns)

@@ -1,0 +1,12 @@
+-- Where a view's elements are in its slab (document 01, "Numbers and views").
+use Prim.Native.Nat.{ℕ}
+use lib.IntN.{ℤ, pos, _+ℤ_, _*ℤ_, natAbs}
+use Rattle.view.specs.declared.View.{View}
+
+-- start + r · row stride + c · column stride, over the integers
+unfoldable pub place : View → ℕ → ℕ → ℤ
+place v r c = pos (v .start) +ℤ pos r *ℤ v .rs +ℤ pos c *ℤ v .cs
+
+-- the place as an index of the slab: for a view that fits its slab, `place v r c` is `pos (index v r c)`
+unfoldable pub index : View → ℕ → ℕ → ℕ
+index v r c = natAbs (place v r c)

@@ -1,0 +1,179 @@
+// The check of each routine: the answer that the refusals 1 to 4 give, or Done. Arguments in the Rust's order, each view with
+// the length of its slab in elements; flags that no shape rule looks at are left out.
+ghost use mathlib.Core.Path.{_≡_};
+ghost use mathlib.Core.Bool.{_||_, false};
+ghost use mathlib.Core.List.{[], _∷_};
+ghost use Rattle.view.specs.Judge.{arg, judge, lowestOf};
+ghost use Rattle.view.specs.Checks as specs;
+use crate::Answer;
+use crate::Side;
+use crate::Trans;
+use crate::View;
+use crate::bounds::out_of_bounds;
+use crate::bounds::too_large;
+use crate::overlap::overlap;
+use crate::shapes;
+
+// Whether one of two, and of three, tests passed.
+fn one_of_two(p: bool, q: bool) -> bool
+    ensures { λ r. ⌜ r ≡ p || (q || false) ⌝ }
+{
+    if p { true } else { q }
+}
+
+fn one_of_three(p: bool, q: bool, r: bool) -> bool
+    ensures { λ s. ⌜ s ≡ p || (q || (r || false)) ⌝ }
+{
+    if p { true } else { one_of_two(q, r) }
+}
+
+// The lowest refusal met, by whether some view is too large, some is out of bounds, and the shapes are wrong.
+fn lowest(large: bool, out: bool, wrong: bool, target: View) -> Answer
+    ensures { λ r. ⌜ r ≡ lowestOf large out wrong target ⌝ }
+{
+    if large {
+        Answer::TooLarge
+    } else if out {
+        Answer::OutOfBounds
+    } else if wrong {
+        Answer::ShapeMismatch
+    } else if overlap(target) {
+        Answer::Overlap
+    } else {
+        Answer::Done
+    }
+}
+
+// A call with two views, the second its target.
+fn judge2(a: View, la: usize, b: View, lb: usize, shapes: bool) -> Answer
+    ensures { λ r. ⌜ r ≡ judge (arg a la ∷ arg b lb ∷ []) shapes b ⌝ }
+{
+    let large = one_of_two(too_large(a), too_large(b));
+    let out = one_of_two(out_of_bounds(a, la), out_of_bounds(b, lb));
+    lowest(large, out, !shapes, b)
+}
+
+// A call with three views, the third its target.
+fn judge3(a: View, la: usize, b: View, lb: usize, c: View, lc: usize, shapes: bool) -> Answer
+    ensures { λ r. ⌜ r ≡ judge (arg a la ∷ arg b lb ∷ arg c lc ∷ []) shapes c ⌝ }
+{
+    let large = one_of_three(too_large(a), too_large(b), too_large(c));
+    let out = one_of_three(
+        out_of_bounds(a, la),
+        out_of_bounds(b, lb),
+        out_of_bounds(c, lc),
+    );
+    lowest(large, out, !shapes, c)
+}
+
+// The refusal of a call whose shapes cannot go together, as one with a flag out of its range.
+pub fn refuse2(a: View, la: usize, b: View, lb: usize) -> Answer
+    ensures { λ r. ⌜ r ≡ judge (arg a la ∷ arg b lb ∷ []) false b ⌝ }
+{
+    judge2(a, la, b, lb, false)
+}
+
+pub fn refuse3(a: View, la: usize, b: View, lb: usize, c: View, lc: usize) -> Answer
+    ensures { λ r. ⌜ r ≡ judge (arg a la ∷ arg b lb ∷ arg c lc ∷ []) false c ⌝ }
+{
+    judge3(a, la, b, lb, c, lc, false)
+}
+
+pub fn check_gemv(t: Trans, a: View, la: usize, x: View, lx: usize, y: View, ly: usize) -> Answer
+    ensures { λ r. ⌜ r ≡ specs.gemvCheck t a la x lx y ly ⌝ }
+{
+    judge3(a, la, x, lx, y, ly, shapes::gemv(t, a, x, y))
+}
+
+pub fn check_hemv(a: View, la: usize, x: View, lx: usize, y: View, ly: usize) -> Answer
+    ensures { λ r. ⌜ r ≡ specs.hemvCheck a la x lx y ly ⌝ }
+{
+    judge3(a, la, x, lx, y, ly, shapes::hemv(a, x, y))
+}
+
+pub fn check_her(x: View, lx: usize, a: View, la: usize) -> Answer
+    ensures { λ r. ⌜ r ≡ specs.herCheck x lx a la ⌝ }
+{
+    judge2(x, lx, a, la, shapes::trmv(a, x))
+}
+
+pub fn check_her2(x: View, lx: usize, y: View, ly: usize, a: View, la: usize) -> Answer
+    ensures { λ r. ⌜ r ≡ specs.her2Check x lx y ly a la ⌝ }
+{
+    judge3(x, lx, y, ly, a, la, shapes::hemv(a, x, y))
+}
+
+pub fn check_trmv(a: View, la: usize, x: View, lx: usize) -> Answer
+    ensures { λ r. ⌜ r ≡ specs.trmvCheck a la x lx ⌝ }
+{
+    judge2(a, la, x, lx, shapes::trmv(a, x))
+}
+
+pub fn check_trsv(a: View, la: usize, x: View, lx: usize) -> Answer
+    ensures { λ r. ⌜ r ≡ specs.trsvCheck a la x lx ⌝ }
+{
+    check_trmv(a, la, x, lx)
+}
+
+pub fn check_gemm(
+    ta: Trans,
+    tb: Trans,
+    a: View,
+    la: usize,
+    b: View,
+    lb: usize,
+    c: View,
+    lc: usize,
+) -> Answer
+    ensures { λ r. ⌜ r ≡ specs.gemmCheck ta tb a la b lb c lc ⌝ }
+{
+    judge3(a, la, b, lb, c, lc, shapes::gemm(ta, tb, a, b, c))
+}
+
+pub fn check_symm(side: Side, a: View, la: usize, b: View, lb: usize, c: View, lc: usize) -> Answer
+    ensures { λ r. ⌜ r ≡ specs.symmCheck side a la b lb c lc ⌝ }
+{
+    judge3(a, la, b, lb, c, lc, shapes::symm(side, a, b, c))
+}
+
+pub fn check_hemm(side: Side, a: View, la: usize, b: View, lb: usize, c: View, lc: usize) -> Answer
+    ensures { λ r. ⌜ r ≡ specs.hemmCheck side a la b lb c lc ⌝ }
+{
+    check_symm(side, a, la, b, lb, c, lc)
+}
+
+pub fn check_syrk(t: Trans, a: View, la: usize, c: View, lc: usize) -> Answer
+    ensures { λ r. ⌜ r ≡ specs.syrkCheck t a la c lc ⌝ }
+{
+    judge2(a, la, c, lc, shapes::syrk(t, a, c))
+}
+
+pub fn check_herk(t: Trans, a: View, la: usize, c: View, lc: usize) -> Answer
+    ensures { λ r. ⌜ r ≡ specs.herkCheck t a la c lc ⌝ }
+{
+    check_syrk(t, a, la, c, lc)
+}
+
+pub fn check_syr2k(t: Trans, a: View, la: usize, b: View, lb: usize, c: View, lc: usize) -> Answer
+    ensures { λ r. ⌜ r ≡ specs.syr2kCheck t a la b lb c lc ⌝ }
+{
+    judge3(a, la, b, lb, c, lc, shapes::syr2k(t, a, b, c))
+}
+
+pub fn check_her2k(t: Trans, a: View, la: usize, b: View, lb: usize, c: View, lc: usize) -> Answer
+    ensures { λ r. ⌜ r ≡ specs.her2kCheck t a la b lb c lc ⌝ }
+{
+    check_syr2k(t, a, la, b, lb, c, lc)
+}
+
+pub fn check_trmm(side: Side, a: View, la: usize, b: View, lb: usize) -> Answer
+    ensures { λ r. ⌜ r ≡ specs.trmmCheck side a la b lb ⌝ }
+{
+    judge2(a, la, b, lb, shapes::trmm(side, a, b))
+}
+
+pub fn check_trsm(side: Side, a: View, la: usize, b: View, lb: usize) -> Answer
+    ensures { λ r. ⌜ r ≡ specs.trsmCheck side a la b lb ⌝ }
+{
+    check_trmm(side, a, la, b, lb)
+}

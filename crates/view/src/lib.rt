@@ -1,0 +1,193 @@
+// Views of a slab, the flags of the routines, and the refusals that look at views alone.
+ghost use mathlib.Core.Path.{_≡_};
+ghost use mathlib.Core.Bool.{true};
+ghost use Prim.Native.Nat.{_<_, _^_};
+ghost use lib.IntN.{pos, _*ℤ_};
+ghost use mir.Syntax.{w64};
+ghost use mir.Val.{SFits};
+ghost use Rattle.view.specs.Place.{index};
+ghost use Rattle.view.specs.Refusals.{isVector, vecLength};
+ghost use Rattle.view.specs.Vector.{vecCoord, columnOf};
+ghost use Rattle.view.specs.Judge.{answerNumber, isDone};
+ghost use Rattle.view.specs.Steps.{Shown};
+
+mod bounds;
+mod checks;
+mod overlap;
+mod shapes;
+
+pub use checks::check_gemm;
+pub use checks::check_gemv;
+pub use checks::check_hemm;
+pub use checks::check_hemv;
+pub use checks::check_her;
+pub use checks::check_her2;
+pub use checks::check_her2k;
+pub use checks::check_herk;
+pub use checks::check_symm;
+pub use checks::check_syr2k;
+pub use checks::check_syrk;
+pub use checks::check_trmm;
+pub use checks::check_trmv;
+pub use checks::check_trsm;
+pub use checks::check_trsv;
+pub use checks::refuse2;
+pub use checks::refuse3;
+pub use shapes::op_cols;
+pub use shapes::op_rows;
+
+// Element (r, c) is at start + r * rs + c * cs, counted in elements of the slab.
+pub struct View {
+    pub start: usize,
+    pub rows: usize,
+    pub cols: usize,
+    pub rs: i64,
+    pub cs: i64,
+}
+
+// A row and a column.
+pub struct Coord {
+    pub row: usize,
+    pub col: usize,
+}
+
+// op(A) is the matrix, its transpose, or its conjugate transpose.
+pub enum Trans {
+    NoTrans,
+    Trans,
+    ConjTrans,
+}
+
+// The triangle that is named.
+pub enum UpLo {
+    Upper,
+    Lower,
+}
+
+// Whether the diagonal is read, or counts as ones.
+pub enum Diag {
+    NonUnit,
+    Unit,
+}
+
+// The side on which A stands.
+pub enum Side {
+    Left,
+    Right,
+}
+
+// What a call answers: done, or the refusal.
+pub enum Answer {
+    Done,
+    TooLarge,
+    OutOfBounds,
+    ShapeMismatch,
+    Overlap,
+    Singular,
+}
+
+// The number of an answer.
+pub fn number(a: Answer) -> u8
+    ensures { λ r. ⌜ r ≡ answerNumber a ⌝ }
+{
+    match a {
+        Answer::Done => 0,
+        Answer::TooLarge => 1,
+        Answer::OutOfBounds => 2,
+        Answer::ShapeMismatch => 3,
+        Answer::Overlap => 4,
+        Answer::Singular => 5,
+    }
+}
+
+// Whether a check passed.
+pub fn passed(a: Answer) -> bool
+    ensures { λ r. ⌜ r ≡ isDone a ⌝ }
+{
+    match a {
+        Answer::Done => true,
+        Answer::TooLarge => false,
+        Answer::OutOfBounds => false,
+        Answer::ShapeMismatch => false,
+        Answer::Overlap => false,
+        Answer::Singular => false,
+    }
+}
+
+pub fn rows(v: View) -> usize
+    ensures { λ r. ⌜ r ≡ v .rows ⌝ }
+{
+    v.rows
+}
+
+pub fn cols(v: View) -> usize
+    ensures { λ r. ⌜ r ≡ v .cols ⌝ }
+{
+    v.cols
+}
+
+// k steps of a stride.
+fn steps(k: usize, stride: i64) -> i64
+    requires { ⌜ (k < 2 ^ 63) × SFits w64 (pos k *ℤ stride) ⌝ }
+    ensures { λ r. ⌜ r ≡ pos k *ℤ stride ⌝ }
+{
+    k as i64 * stride
+}
+
+// The index of element (r, c) in the slab.
+pub fn place(v: View, r: usize, c: usize) -> usize
+    requires { ⌜ Shown v r c ⌝ }
+    ensures { λ p. ⌜ p ≡ index v r c ⌝ }
+{
+    (v.start as i64 + steps(r, v.rs) + steps(c, v.cs)) as usize
+}
+
+// Where element k of a vector stands.
+pub fn vec_coord(v: View, k: usize) -> Coord
+    ensures { λ r. ⌜ r ≡ vecCoord v k ⌝ }
+{
+    if v.cols <= v.rows {
+        Coord { row: k, col: 0 }
+    } else {
+        Coord { row: 0, col: k }
+    }
+}
+
+// The length of a vector: rows times columns, of which one is at most 1.
+pub fn vec_length(v: View) -> usize
+    requires { ⌜ isVector v ≡ true ⌝ }
+    ensures { λ r. ⌜ r ≡ vecLength v ⌝ }
+{
+    if v.rows == 0 {
+        0
+    } else if v.cols <= 1 {
+        if v.cols == 0 { 0 } else { v.rows }
+    } else {
+        v.cols
+    }
+}
+
+// The vector as one column.
+pub fn column(v: View) -> View
+    requires { ⌜ isVector v ≡ true ⌝ }
+    ensures { λ r. ⌜ r ≡ columnOf v ⌝ }
+{
+    let n = vec_length(v);
+    if v.cols <= v.rows {
+        View {
+            start: v.start,
+            rows: n,
+            cols: 1,
+            rs: v.rs,
+            cs: 0,
+        }
+    } else {
+        View {
+            start: v.start,
+            rows: n,
+            cols: 1,
+            rs: v.cs,
+            cs: 0,
+        }
+    }
+}
