@@ -1,0 +1,56 @@
+-- A call that answers 0 has passed its check and done its work: what its update makes of a written element is what the target shows.
+use Prim.Native.Nat.{ℕ, _<_}
+use mathlib.Core.Bool.{Bool, true, false, cond}
+use mathlib.Core.List.{List}
+use mathlib.Core.Path.{_≡_, refl, sym, ap, subst, _∙_}
+use native.Mathlib.Omega.{arith}
+use Rattle.number.specs.Kind.{Kind, Same}
+use Rattle.number.specs.Laws.{SlabLaws}
+use Rattle.view.specs.declared.View.{View}
+use Rattle.view.specs.declared.Answer.{Answer}
+use Rattle.view.specs.declared.Answer.the-variants.{Done, TooLarge, OutOfBounds, ShapeMismatch, Overlap, Singular}
+use Rattle.view.specs.Refusals.{overlaps}
+use Rattle.view.specs.Steps.{Accepted}
+use Rattle.view.specs.PlaceLaws.{fits→index-lt}
+use Rattle.view.specs.OverlapLaws.{no-overlap→index-inj}
+use Rattle.slab.specs.Elem.{elem}
+use Rattle.slab.specs.Update.{Mask, Change, update}
+use Rattle.slab.specs.Distinct.{Inside, Distinct}
+use Rattle.slab.proofs.UpdateLaws.{update-shown}
+use Rattle.blas.specs.Matrix.{Matrix}
+use Rattle.blas.specs.Outcome.{outcome}
+
+-- ---- a call that answers 0
+
+module _ (K : Kind) (work lent : List (K .Cell)) where
+  pub answer-done : (a : Answer) → outcome K a work lent .answer ≡ 0 → a ≡ Done
+  answer-done Done h = refl
+  answer-done TooLarge h = absurd (omega arith)
+  answer-done OutOfBounds h = absurd (omega arith)
+  answer-done ShapeMismatch h = absurd (omega arith)
+  answer-done Overlap h = absurd (omega arith)
+  answer-done Singular h = absurd (omega arith)
+
+  pub done-work : (a : Answer) → outcome K a work lent .answer ≡ 0 → outcome K a work lent .slab ≡ work
+  done-work a h = ap (λ (b : Answer). outcome K b work lent .slab) (answer-done a h)
+
+pub inside : (v : View) (len : ℕ) → Accepted v len → Inside v len
+inside v len a = record { below = fits→index-lt v len (a .fits) }
+
+pub distinct : (v : View) (len : ℕ) → Accepted v len → overlaps v ≡ false → Distinct v
+distinct v len a h = record { only = no-overlap→index-inj v len (a .fits) h }
+
+-- ---- what the update leaves, of a call that answers 0
+
+module _ {K : Kind} (L : SlabLaws K) (v : View) (mask : Mask) (u : Change K) (slab : List (K .Cell))
+    (accepted : Accepted v (K .count slab)) (apart : overlaps v ≡ false) (z : Matrix K) where
+  -- where u makes of each written element a number that equals z's, so does the call
+  pub outcome-same : ((i j : ℕ) → i < v .rows → j < v .cols → mask i j ≡ true → Same K (u i j (elem K slab v i j)) (z i j))
+      → (check : Answer) → outcome K check (update K v mask u slab) slab .answer ≡ 0
+      → (i j : ℕ) → i < v .rows → j < v .cols → mask i j ≡ true → Same K (elem K (outcome K check (update K v mask u slab) slab .slab) v i j) (z i j)
+  outcome-same e check done i j p q h =
+      subst (λ (x : K .Elem). Same K x (z i j))
+      (sym (ap (λ (t : List (K .Cell)). elem K t v i j) (done-work K (update K v mask u slab) slab check done)
+      ∙ update-shown K L v mask u slab (inside v (K .count slab) accepted) (distinct v (K .count slab) accepted apart) i j p q
+      ∙ ap (λ (b : Bool). cond b (u i j (elem K slab v i j)) (elem K slab v i j)) h))
+      (e i j p q h)

@@ -1,0 +1,155 @@
+-- The exactness theorems on given slabs: every condition is met by computing it.
+use Prim.Native.Nat.{ℕ, _+_, _*_}
+use mathlib.Core.Bool.{Bool, true, false, not, true≢false, _&&_}
+use mathlib.Core.List.{List, [], _∷_}
+use mathlib.Core.Path.{_≡_, refl, sym, subst, ap, _∙_}
+use lib.Dec.{T, leb, lit≤}
+use lib.Ieee.{Float, nan, eq, isNan}
+use lib.IntN.{ℤ, pos, negsuc}
+use lib.ListN.{getD}
+use borrow.Author.Tests.{leb-true, not-false}
+use Rattle.number.specs.Kind.{Kind, Same, real64, complex}
+use Rattle.number.specs.Integers.{Gaussian, integers, floatOfInteger, complexOfGaussian}
+use Rattle.number.specs.declared.Complex.{Complex}
+use Rattle.view.specs.declared.View.{View}
+use Rattle.view.specs.declared.Side.the-variants.{Left}
+use Rattle.view.specs.declared.UpLo.the-variants.{Lower}
+use Rattle.view.specs.declared.Trans.the-variants.{ConjTrans}
+use Rattle.view.specs.Any.{any}
+use Rattle.view.specs.AnyLaws.{none-at, and-left, and-right}
+use Rattle.view.specs.Place.{place, index}
+use Rattle.view.specs.Refusals.{tooLarge, outOfBounds, overlaps, isVector, vecLength}
+use Rattle.view.specs.Judge.{judge}
+use Rattle.view.specs.Checks.{symmShape, trmmShape, vectorOf, gemvShape}
+use Rattle.view.specs.Vector.{vecStride, columnOf}
+use Rattle.slab.specs.Elem.{Lent, lent, elem}
+use Rattle.slab.specs.Update.{Mask, everywhere}
+use Rattle.blas.specs.Matrix.{Matrix, matrix, vector, inTriangle, sum}
+use Rattle.blas.specs.Outcome.{Outcome}
+use Rattle.blas.specs.Symm.{symm}
+use Rattle.blas.specs.Gemv.{gemv}
+use Rattle.theorems.specs.Exactness.{Wholes, Whole, Shows, ShowsVector, largestPart, largestScalarPart, realWholes, complexWholes}
+use Rattle.theorems.proofs.ExactInstances.{real64-products, complex-products}
+
+-- ---- the conditions as tests
+
+module _ {K Z : Kind} (W : Wholes K Z) where
+  -- x is z as a number, with no part larger than m
+  abbrev isWhole : ℕ → K .Elem → Z .Elem → Bool
+  isWhole m x z = K .same x (W .number z) && leb (W .magnitude z) m
+
+  pub whole-by : (m : ℕ) (x : K .Elem) (z : Z .Elem) → isWhole m x z ≡ true → Whole W m x z
+  whole-by m x z e =
+      record {
+        same = record { same = subst T (sym (and-left (K .same x (W .number z)) _ e)) tt };
+        small = leb-true (W .magnitude z) m (and-right (K .same x (W .number z)) _ e);
+      }
+
+  pub shows-by : (named : Mask) (a : Lent K) (z : Matrix Z)
+      → any (a .view .rows) (λ i. any (a .view .cols) (λ j. named i j && not (isWhole largestPart (matrix K a i j) (z i j)))) ≡ false → Shows W named a z
+  shows-by named a z h =
+      record {
+        shown = λ i j p q u. whole-by largestPart (matrix K a i j) (z i j)
+            (not-true-left (named i j) u (none-at (a .view .cols) _ (none-at (a .view .rows) _ h i p) j q));
+      }
+    where
+      not-true-left : (b : Bool) {c : Bool} → b ≡ true → (b && not c) ≡ false → c ≡ true
+      not-true-left b {c} e g = not-false c (sym (ap (λ (t : Bool). t && not c) e) ∙ g)
+
+  pub shows-vector-by : (x : Lent K) (z : ℕ → Z .Elem) → any (vecLength (x .view)) (λ i. not (isWhole largestPart (vector K x i 0) (z i))) ≡ false → ShowsVector W x z
+  shows-vector-by x z h = record { shown = λ i p. whole-by largestPart (vector K x i 0) (z i) (not-false _ (none-at (vecLength (x .view)) _ h i p)) }
+
+-- a matrix by its rows, one after the other
+rowsOf : {A : Type 0} → A → ℕ → List A → ℕ → ℕ → A
+rowsOf none cols s i j = getD s (cols * i + j) none
+
+-- ---- symm Left Lower on f64, alpha 2, beta 0: the other triangle of A and the old C are NaN
+
+abbrev float : ℕ → Float
+float n = floatOfInteger (pos n)
+
+abbrev a : Lent real64
+a = lent real64 (float 1 ∷ nan ∷ float 2 ∷ float 3 ∷ []) (record { start = 0; rows = 2; cols = 2; rs = pos 2; cs = pos 1 })
+
+abbrev b : Lent real64
+b = lent real64 (float 5 ∷ float 7 ∷ []) (record { start = 0; rows = 2; cols = 1; rs = pos 1; cs = pos 1 })
+
+abbrev c : Lent real64
+c = lent real64 (nan ∷ nan ∷ []) (record { start = 1; rows = 2; cols = 1; rs = negsuc 0; cs = pos 1 })
+
+za : Matrix integers
+za = rowsOf (pos 0) 2 (pos 1 ∷ pos 0 ∷ pos 2 ∷ pos 3 ∷ [])
+
+zb : Matrix integers
+zb = rowsOf (pos 0) 1 (pos 5 ∷ pos 7 ∷ [])
+
+abbrev multiplied : Outcome real64
+multiplied = symm real64 Left Lower (float 2) a b (float 0) c
+
+multiplied-answer : multiplied .answer ≡ 0
+unfolding symm symmShape trmmShape judge tooLarge outOfBounds overlaps any place
+multiplied-answer = refl
+
+a-shows : Shows realWholes (inTriangle Lower) a za
+unfolding za rowsOf any index place eq isNan
+a-shows = shows-by realWholes (inTriangle Lower) a za refl
+
+b-shows : Shows realWholes everywhere b zb
+unfolding zb rowsOf any index place eq isNan
+b-shows = shows-by realWholes everywhere b zb refl
+
+-- 2 (1·5 + 2·7) and 2 (2·5 + 3·7)
+pub multiplied-exact : Same real64 (elem real64 (multiplied .slab) (c .view) 0 0) (float 38) × Same real64 (elem real64 (multiplied .slab) (c .view) 1 0) (float 62)
+unfolding za zb rowsOf sum eq isNan
+multiplied-exact =
+    let l =
+    real64-products .symm Left Lower (float 2) a b (float 0) c (pos 2) za zb (pos 0) (λ i j. pos 0)
+    (whole-by realWholes largestScalarPart (float 2) (pos 2) refl)
+    a-shows
+    b-shows
+    (whole-by realWholes largestScalarPart (float 0) (pos 0) refl)
+    (λ e. absurd (true≢false e))
+    multiplied-answer
+    in
+    (l .left 0 0 (lit≤ tt) (lit≤ tt) refl, l .left 1 0 (lit≤ tt) (lit≤ tt) refl)
+
+-- ---- gemv ConjTrans on complex, alpha i, beta 1
+
+abbrev number : ℤ → ℤ → Complex
+number x y = complexOfGaussian (record { re = x; im = y })
+
+abbrev whole : ℤ → ℤ → Gaussian
+whole x y = record { re = x; im = y }
+
+abbrev one : View
+one = record { start = 0; rows = 1; cols = 1; rs = pos 1; cs = pos 1 }
+
+abbrev shown : ℤ → ℤ → Lent complex
+shown x y = lent complex (floatOfInteger x ∷ floatOfInteger y ∷ []) one
+
+abbrev turned : Outcome complex
+turned = gemv complex ConjTrans (number (pos 0) (pos 1)) (shown (pos 1) (pos 2)) (shown (pos 3) (pos 0)) (number (pos 1) (pos 0)) (shown (pos 5) (pos 5))
+
+turned-answer : turned .answer ≡ 0
+unfolding gemv gemvShape vectorOf isVector judge tooLarge outOfBounds overlaps any place
+turned-answer = refl
+
+-- i (1 − 2i) 3 + (5 + 5i)
+pub turned-exact : Same complex (elem complex (turned .slab) (columnOf one) 0 0) (number (pos 11) (pos 8))
+unfolding any index place vecStride sum eq isNan
+turned-exact =
+    complex-products .gemv ConjTrans _ (shown (pos 1) (pos 2)) (shown (pos 3) (pos 0)) _ (shown (pos 5) (pos 5))
+    (whole (pos 0) (pos 1))
+    (λ i j. whole (pos 1) (pos 2))
+    (λ i. whole (pos 3) (pos 0))
+    (whole (pos 1) (pos 0))
+    (λ i. whole (pos 5) (pos 5))
+    (whole-by complexWholes largestScalarPart _ _ refl)
+    (shows-by complexWholes everywhere (shown (pos 1) (pos 2)) _ refl)
+    (shows-vector-by complexWholes (shown (pos 3) (pos 0)) _ refl)
+    (whole-by complexWholes largestScalarPart _ _ refl)
+    (λ e. shows-vector-by complexWholes (shown (pos 5) (pos 5)) _ refl)
+    turned-answer
+    .left
+    0
+    (lit≤ tt)

@@ -1,0 +1,20 @@
+-- Proofs of the theorems, over any number kind with its laws, then for each kind. Table: document 01's worked examples.
+-- Exact*: exactness on whole numbers; ExactInstances has the theorems for f64 and complex. Agree*: what a routine can see of a matrix;
+-- AgreeKinds has the theorems for the three kinds.
+pub mod Table
+pub mod ExactSums
+pub mod ExactReadings
+pub mod ExactTargets
+pub mod ExactBasis
+pub mod ExactEngine
+pub mod ExactProducts
+pub mod ExactInstances
+pub mod ExactWorked
+pub mod AgreeSums
+pub mod AgreeReadings
+pub mod AgreeOutcomes
+pub mod AgreeUnits
+pub mod AgreeProducts
+pub mod AgreeRoutines
+pub mod AgreeKinds
+pub mod AgreeExamples

@@ -1,0 +1,4 @@
+-- What the theorems state: Exactness and ExactProducts on whole numbers, Agreement on what a routine can see of a matrix.
+pub mod Exactness
+pub mod ExactProducts
+pub mod Agreement
