@@ -12,4 +12,3 @@ pub mod PlaceLaws
 pub mod OverlapLaws
 pub mod VectorLaws
 pub mod JudgeLaws
-pub mod Worked
