@@ -1,0 +1,2 @@
+-- What the C interface's contracts cite.
+pub mod Interface

@@ -1,0 +1,378 @@
+// The C interface for complex numbers: zb_zgemm and the like.
+
+ghost use Rattle.number.specs.Kind.{complex};
+ghost use Rattle.slab.specs.Elem.{lent};
+ghost use Rattle.capi.specs.Interface.{complexOf, gemmC, gemvC, hemmC, hemvC, herkC, symmC, syrkC, viewOf, Returns};
+use crate::flags::is_side_uplo;
+use crate::flags::is_trans;
+use crate::flags::is_trans_trans;
+use crate::flags::is_uplo;
+use crate::flags::is_uplo_trans;
+use crate::flags::side_of;
+use crate::flags::trans_of;
+use crate::flags::uplo_of;
+use crate::flags::view_of;
+use number::Complex;
+use view::number;
+use view::refuse2;
+use view::refuse3;
+
+// y ← alpha op(A) x + beta y
+#[no_mangle]
+pub extern "C" fn zb_zgemv(
+    trans: u8,
+    alphare: f64,
+    alphaim: f64,
+    a: &[f64],
+    astart: usize,
+    arows: usize,
+    acols: usize,
+    ars: i64,
+    acs: i64,
+    x: &[f64],
+    xstart: usize,
+    xrows: usize,
+    xcols: usize,
+    xrs: i64,
+    xcs: i64,
+    betare: f64,
+    betaim: f64,
+    y: &mut [f64],
+    ystart: usize,
+    yrows: usize,
+    ycols: usize,
+    yrs: i64,
+    ycs: i64,
+) -> u8
+    ensures { λ r. ⌜ Returns complex (gemvC complex trans (complexOf alphare alphaim) (lent complex (now (a .entry)) (viewOf astart arows acols ars acs)) (lent complex (now (x .entry)) (viewOf xstart xrows xcols xrs xcs)) (complexOf betare betaim) (lent complex (now (y .entry)) (viewOf ystart yrows ycols yrs ycs))) r (now (y .exit)) ⌝ }
+{
+    let va = view_of(astart, arows, acols, ars, acs);
+    let vx = view_of(xstart, xrows, xcols, xrs, xcs);
+    let vy = view_of(ystart, yrows, ycols, yrs, ycs);
+    if is_trans(trans) {
+        number(product::complex::gemv(
+            trans_of(trans),
+            Complex {
+                re: alphare,
+                im: alphaim,
+            },
+            a,
+            va,
+            x,
+            vx,
+            Complex {
+                re: betare,
+                im: betaim,
+            },
+            y,
+            vy,
+        ))
+    } else {
+        number(refuse3(va, a.len() / 2, vx, x.len() / 2, vy, y.len() / 2))
+    }
+}
+
+// y ← alpha A x + beta y, A Hermitian
+#[no_mangle]
+pub extern "C" fn zb_zhemv(
+    uplo: u8,
+    alphare: f64,
+    alphaim: f64,
+    a: &[f64],
+    astart: usize,
+    arows: usize,
+    acols: usize,
+    ars: i64,
+    acs: i64,
+    x: &[f64],
+    xstart: usize,
+    xrows: usize,
+    xcols: usize,
+    xrs: i64,
+    xcs: i64,
+    betare: f64,
+    betaim: f64,
+    y: &mut [f64],
+    ystart: usize,
+    yrows: usize,
+    ycols: usize,
+    yrs: i64,
+    ycs: i64,
+) -> u8
+    ensures { λ r. ⌜ Returns complex (hemvC complex uplo (complexOf alphare alphaim) (lent complex (now (a .entry)) (viewOf astart arows acols ars acs)) (lent complex (now (x .entry)) (viewOf xstart xrows xcols xrs xcs)) (complexOf betare betaim) (lent complex (now (y .entry)) (viewOf ystart yrows ycols yrs ycs))) r (now (y .exit)) ⌝ }
+{
+    let va = view_of(astart, arows, acols, ars, acs);
+    let vx = view_of(xstart, xrows, xcols, xrs, xcs);
+    let vy = view_of(ystart, yrows, ycols, yrs, ycs);
+    if is_uplo(uplo) {
+        number(product::complex::hemv(
+            uplo_of(uplo),
+            Complex {
+                re: alphare,
+                im: alphaim,
+            },
+            a,
+            va,
+            x,
+            vx,
+            Complex {
+                re: betare,
+                im: betaim,
+            },
+            y,
+            vy,
+        ))
+    } else {
+        number(refuse3(va, a.len() / 2, vx, x.len() / 2, vy, y.len() / 2))
+    }
+}
+
+// C ← alpha op(A) op(B) + beta C
+#[no_mangle]
+pub extern "C" fn zb_zgemm(
+    ta: u8,
+    tb: u8,
+    alphare: f64,
+    alphaim: f64,
+    a: &[f64],
+    astart: usize,
+    arows: usize,
+    acols: usize,
+    ars: i64,
+    acs: i64,
+    b: &[f64],
+    bstart: usize,
+    brows: usize,
+    bcols: usize,
+    brs: i64,
+    bcs: i64,
+    betare: f64,
+    betaim: f64,
+    c: &mut [f64],
+    cstart: usize,
+    crows: usize,
+    ccols: usize,
+    crs: i64,
+    ccs: i64,
+) -> u8
+    ensures { λ r. ⌜ Returns complex (gemmC complex ta tb (complexOf alphare alphaim) (lent complex (now (a .entry)) (viewOf astart arows acols ars acs)) (lent complex (now (b .entry)) (viewOf bstart brows bcols brs bcs)) (complexOf betare betaim) (lent complex (now (c .entry)) (viewOf cstart crows ccols crs ccs))) r (now (c .exit)) ⌝ }
+{
+    let va = view_of(astart, arows, acols, ars, acs);
+    let vb = view_of(bstart, brows, bcols, brs, bcs);
+    let vc = view_of(cstart, crows, ccols, crs, ccs);
+    if is_trans_trans(ta, tb) {
+        number(product::complex::gemm(
+            trans_of(ta),
+            trans_of(tb),
+            Complex {
+                re: alphare,
+                im: alphaim,
+            },
+            a,
+            va,
+            b,
+            vb,
+            Complex {
+                re: betare,
+                im: betaim,
+            },
+            c,
+            vc,
+        ))
+    } else {
+        number(refuse3(va, a.len() / 2, vb, b.len() / 2, vc, c.len() / 2))
+    }
+}
+
+// C ← alpha A B + beta C or alpha B A + beta C, A symmetric
+#[no_mangle]
+pub extern "C" fn zb_zsymm(
+    side: u8,
+    uplo: u8,
+    alphare: f64,
+    alphaim: f64,
+    a: &[f64],
+    astart: usize,
+    arows: usize,
+    acols: usize,
+    ars: i64,
+    acs: i64,
+    b: &[f64],
+    bstart: usize,
+    brows: usize,
+    bcols: usize,
+    brs: i64,
+    bcs: i64,
+    betare: f64,
+    betaim: f64,
+    c: &mut [f64],
+    cstart: usize,
+    crows: usize,
+    ccols: usize,
+    crs: i64,
+    ccs: i64,
+) -> u8
+    ensures { λ r. ⌜ Returns complex (symmC complex side uplo (complexOf alphare alphaim) (lent complex (now (a .entry)) (viewOf astart arows acols ars acs)) (lent complex (now (b .entry)) (viewOf bstart brows bcols brs bcs)) (complexOf betare betaim) (lent complex (now (c .entry)) (viewOf cstart crows ccols crs ccs))) r (now (c .exit)) ⌝ }
+{
+    let va = view_of(astart, arows, acols, ars, acs);
+    let vb = view_of(bstart, brows, bcols, brs, bcs);
+    let vc = view_of(cstart, crows, ccols, crs, ccs);
+    if is_side_uplo(side, uplo) {
+        number(product::complex::symm(
+            side_of(side),
+            uplo_of(uplo),
+            Complex {
+                re: alphare,
+                im: alphaim,
+            },
+            a,
+            va,
+            b,
+            vb,
+            Complex {
+                re: betare,
+                im: betaim,
+            },
+            c,
+            vc,
+        ))
+    } else {
+        number(refuse3(va, a.len() / 2, vb, b.len() / 2, vc, c.len() / 2))
+    }
+}
+
+// C ← alpha A B + beta C or alpha B A + beta C, A Hermitian
+#[no_mangle]
+pub extern "C" fn zb_zhemm(
+    side: u8,
+    uplo: u8,
+    alphare: f64,
+    alphaim: f64,
+    a: &[f64],
+    astart: usize,
+    arows: usize,
+    acols: usize,
+    ars: i64,
+    acs: i64,
+    b: &[f64],
+    bstart: usize,
+    brows: usize,
+    bcols: usize,
+    brs: i64,
+    bcs: i64,
+    betare: f64,
+    betaim: f64,
+    c: &mut [f64],
+    cstart: usize,
+    crows: usize,
+    ccols: usize,
+    crs: i64,
+    ccs: i64,
+) -> u8
+    ensures { λ r. ⌜ Returns complex (hemmC complex side uplo (complexOf alphare alphaim) (lent complex (now (a .entry)) (viewOf astart arows acols ars acs)) (lent complex (now (b .entry)) (viewOf bstart brows bcols brs bcs)) (complexOf betare betaim) (lent complex (now (c .entry)) (viewOf cstart crows ccols crs ccs))) r (now (c .exit)) ⌝ }
+{
+    let va = view_of(astart, arows, acols, ars, acs);
+    let vb = view_of(bstart, brows, bcols, brs, bcs);
+    let vc = view_of(cstart, crows, ccols, crs, ccs);
+    if is_side_uplo(side, uplo) {
+        number(product::complex::hemm(
+            side_of(side),
+            uplo_of(uplo),
+            Complex {
+                re: alphare,
+                im: alphaim,
+            },
+            a,
+            va,
+            b,
+            vb,
+            Complex {
+                re: betare,
+                im: betaim,
+            },
+            c,
+            vc,
+        ))
+    } else {
+        number(refuse3(va, a.len() / 2, vb, b.len() / 2, vc, c.len() / 2))
+    }
+}
+
+// C ← alpha A Aᵀ + beta C or alpha Aᵀ A + beta C, in the named triangle
+#[no_mangle]
+pub extern "C" fn zb_zsyrk(
+    uplo: u8,
+    trans: u8,
+    alphare: f64,
+    alphaim: f64,
+    a: &[f64],
+    astart: usize,
+    arows: usize,
+    acols: usize,
+    ars: i64,
+    acs: i64,
+    betare: f64,
+    betaim: f64,
+    c: &mut [f64],
+    cstart: usize,
+    crows: usize,
+    ccols: usize,
+    crs: i64,
+    ccs: i64,
+) -> u8
+    ensures { λ r. ⌜ Returns complex (syrkC complex uplo trans (complexOf alphare alphaim) (lent complex (now (a .entry)) (viewOf astart arows acols ars acs)) (complexOf betare betaim) (lent complex (now (c .entry)) (viewOf cstart crows ccols crs ccs))) r (now (c .exit)) ⌝ }
+{
+    let va = view_of(astart, arows, acols, ars, acs);
+    let vc = view_of(cstart, crows, ccols, crs, ccs);
+    if is_uplo_trans(uplo, trans) {
+        number(product::complex::syrk(
+            uplo_of(uplo),
+            trans_of(trans),
+            Complex {
+                re: alphare,
+                im: alphaim,
+            },
+            a,
+            va,
+            Complex {
+                re: betare,
+                im: betaim,
+            },
+            c,
+            vc,
+        ))
+    } else {
+        number(refuse2(va, a.len() / 2, vc, c.len() / 2))
+    }
+}
+
+// C ← alpha A Aᴴ + beta C or alpha Aᴴ A + beta C, in the named triangle, alpha and beta real
+#[no_mangle]
+pub extern "C" fn zb_zherk(
+    uplo: u8,
+    trans: u8,
+    alpha: f64,
+    a: &[f64],
+    astart: usize,
+    arows: usize,
+    acols: usize,
+    ars: i64,
+    acs: i64,
+    beta: f64,
+    c: &mut [f64],
+    cstart: usize,
+    crows: usize,
+    ccols: usize,
+    crs: i64,
+    ccs: i64,
+) -> u8
+    ensures { λ r. ⌜ Returns complex (herkC complex uplo trans alpha (lent complex (now (a .entry)) (viewOf astart arows acols ars acs)) beta (lent complex (now (c .entry)) (viewOf cstart crows ccols crs ccs))) r (now (c .exit)) ⌝ }
+{
+    let va = view_of(astart, arows, acols, ars, acs);
+    let vc = view_of(cstart, crows, ccols, crs, ccs);
+    if is_uplo_trans(uplo, trans) {
+        number(product::complex::herk(uplo_of(uplo), trans_of(trans), alpha, a, va, beta, c, vc))
+    } else {
+        number(refuse2(va, a.len() / 2, vc, c.len() / 2))
+    }
+}

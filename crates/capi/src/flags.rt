@@ -1,0 +1,79 @@
+// Flags and views from the numbers that C passes.
+
+ghost use mathlib.Core.Path.{_≡_};
+ghost use mathlib.Core.Bool.{_&&_};
+ghost use Rattle.capi.specs.Interface.{isTrans, isUpLo, isSide, transOf, upLoOf, sideOf, viewOf};
+use view::Side;
+use view::Trans;
+use view::UpLo;
+use view::View;
+
+pub fn is_trans(t: u8) -> bool
+    ensures { λ r. ⌜ r ≡ isTrans t ⌝ }
+{
+    t < 3
+}
+
+pub fn is_uplo(u: u8) -> bool
+    ensures { λ r. ⌜ r ≡ isUpLo u ⌝ }
+{
+    u < 2
+}
+
+pub fn is_trans_trans(s: u8, t: u8) -> bool
+    ensures { λ r. ⌜ r ≡ isTrans s && isTrans t ⌝ }
+{
+    if is_trans(s) { is_trans(t) } else { false }
+}
+
+pub fn is_side_uplo(s: u8, u: u8) -> bool
+    ensures { λ r. ⌜ r ≡ isSide s && isUpLo u ⌝ }
+{
+    if is_uplo(s) { is_uplo(u) } else { false }
+}
+
+pub fn is_uplo_trans(u: u8, t: u8) -> bool
+    ensures { λ r. ⌜ r ≡ isUpLo u && isTrans t ⌝ }
+{
+    if is_uplo(u) { is_trans(t) } else { false }
+}
+
+pub fn trans_of(t: u8) -> Trans
+    ensures { λ r. ⌜ r ≡ transOf t ⌝ }
+{
+    match t {
+        0 => Trans::NoTrans,
+        1 => Trans::Trans,
+        _ => Trans::ConjTrans,
+    }
+}
+
+pub fn uplo_of(u: u8) -> UpLo
+    ensures { λ r. ⌜ r ≡ upLoOf u ⌝ }
+{
+    match u {
+        0 => UpLo::Upper,
+        _ => UpLo::Lower,
+    }
+}
+
+pub fn side_of(s: u8) -> Side
+    ensures { λ r. ⌜ r ≡ sideOf s ⌝ }
+{
+    match s {
+        0 => Side::Left,
+        _ => Side::Right,
+    }
+}
+
+pub fn view_of(start: usize, rows: usize, cols: usize, rs: i64, cs: i64) -> View
+    ensures { λ r. ⌜ r ≡ viewOf start rows cols rs cs ⌝ }
+{
+    View {
+        start,
+        rows,
+        cols,
+        rs,
+        cs,
+    }
+}

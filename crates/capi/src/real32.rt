@@ -1,0 +1,330 @@
+// The C interface for f32: zb_sgemm and the like.
+
+ghost use Rattle.number.specs.Kind.{real32};
+ghost use Rattle.slab.specs.Elem.{lent};
+ghost use Rattle.capi.specs.Interface.{gemmC, gemvC, hemmC, hemvC, herkC, symmC, syrkC, viewOf, Returns};
+use crate::flags::is_side_uplo;
+use crate::flags::is_trans;
+use crate::flags::is_trans_trans;
+use crate::flags::is_uplo;
+use crate::flags::is_uplo_trans;
+use crate::flags::side_of;
+use crate::flags::trans_of;
+use crate::flags::uplo_of;
+use crate::flags::view_of;
+use number::Real32;
+use view::number;
+use view::refuse2;
+use view::refuse3;
+
+// y ← alpha op(A) x + beta y
+#[no_mangle]
+pub extern "C" fn zb_sgemv(
+    trans: u8,
+    alpha: f32,
+    a: &[f32],
+    astart: usize,
+    arows: usize,
+    acols: usize,
+    ars: i64,
+    acs: i64,
+    x: &[f32],
+    xstart: usize,
+    xrows: usize,
+    xcols: usize,
+    xrs: i64,
+    xcs: i64,
+    beta: f32,
+    y: &mut [f32],
+    ystart: usize,
+    yrows: usize,
+    ycols: usize,
+    yrs: i64,
+    ycs: i64,
+) -> u8
+    ensures { λ r. ⌜ Returns real32 (gemvC real32 trans alpha (lent real32 (now (a .entry)) (viewOf astart arows acols ars acs)) (lent real32 (now (x .entry)) (viewOf xstart xrows xcols xrs xcs)) beta (lent real32 (now (y .entry)) (viewOf ystart yrows ycols yrs ycs))) r (now (y .exit)) ⌝ }
+{
+    let va = view_of(astart, arows, acols, ars, acs);
+    let vx = view_of(xstart, xrows, xcols, xrs, xcs);
+    let vy = view_of(ystart, yrows, ycols, yrs, ycs);
+    if is_trans(trans) {
+        number(product::real32::gemv(
+            trans_of(trans),
+            Real32(alpha),
+            a,
+            va,
+            x,
+            vx,
+            Real32(beta),
+            y,
+            vy,
+        ))
+    } else {
+        number(refuse3(va, a.len(), vx, x.len(), vy, y.len()))
+    }
+}
+
+// y ← alpha A x + beta y, A Hermitian
+#[no_mangle]
+pub extern "C" fn zb_shemv(
+    uplo: u8,
+    alpha: f32,
+    a: &[f32],
+    astart: usize,
+    arows: usize,
+    acols: usize,
+    ars: i64,
+    acs: i64,
+    x: &[f32],
+    xstart: usize,
+    xrows: usize,
+    xcols: usize,
+    xrs: i64,
+    xcs: i64,
+    beta: f32,
+    y: &mut [f32],
+    ystart: usize,
+    yrows: usize,
+    ycols: usize,
+    yrs: i64,
+    ycs: i64,
+) -> u8
+    ensures { λ r. ⌜ Returns real32 (hemvC real32 uplo alpha (lent real32 (now (a .entry)) (viewOf astart arows acols ars acs)) (lent real32 (now (x .entry)) (viewOf xstart xrows xcols xrs xcs)) beta (lent real32 (now (y .entry)) (viewOf ystart yrows ycols yrs ycs))) r (now (y .exit)) ⌝ }
+{
+    let va = view_of(astart, arows, acols, ars, acs);
+    let vx = view_of(xstart, xrows, xcols, xrs, xcs);
+    let vy = view_of(ystart, yrows, ycols, yrs, ycs);
+    if is_uplo(uplo) {
+        number(product::real32::hemv(
+            uplo_of(uplo),
+            Real32(alpha),
+            a,
+            va,
+            x,
+            vx,
+            Real32(beta),
+            y,
+            vy,
+        ))
+    } else {
+        number(refuse3(va, a.len(), vx, x.len(), vy, y.len()))
+    }
+}
+
+// C ← alpha op(A) op(B) + beta C
+#[no_mangle]
+pub extern "C" fn zb_sgemm(
+    ta: u8,
+    tb: u8,
+    alpha: f32,
+    a: &[f32],
+    astart: usize,
+    arows: usize,
+    acols: usize,
+    ars: i64,
+    acs: i64,
+    b: &[f32],
+    bstart: usize,
+    brows: usize,
+    bcols: usize,
+    brs: i64,
+    bcs: i64,
+    beta: f32,
+    c: &mut [f32],
+    cstart: usize,
+    crows: usize,
+    ccols: usize,
+    crs: i64,
+    ccs: i64,
+) -> u8
+    ensures { λ r. ⌜ Returns real32 (gemmC real32 ta tb alpha (lent real32 (now (a .entry)) (viewOf astart arows acols ars acs)) (lent real32 (now (b .entry)) (viewOf bstart brows bcols brs bcs)) beta (lent real32 (now (c .entry)) (viewOf cstart crows ccols crs ccs))) r (now (c .exit)) ⌝ }
+{
+    let va = view_of(astart, arows, acols, ars, acs);
+    let vb = view_of(bstart, brows, bcols, brs, bcs);
+    let vc = view_of(cstart, crows, ccols, crs, ccs);
+    if is_trans_trans(ta, tb) {
+        number(product::real32::gemm(
+            trans_of(ta),
+            trans_of(tb),
+            Real32(alpha),
+            a,
+            va,
+            b,
+            vb,
+            Real32(beta),
+            c,
+            vc,
+        ))
+    } else {
+        number(refuse3(va, a.len(), vb, b.len(), vc, c.len()))
+    }
+}
+
+// C ← alpha A B + beta C or alpha B A + beta C, A symmetric
+#[no_mangle]
+pub extern "C" fn zb_ssymm(
+    side: u8,
+    uplo: u8,
+    alpha: f32,
+    a: &[f32],
+    astart: usize,
+    arows: usize,
+    acols: usize,
+    ars: i64,
+    acs: i64,
+    b: &[f32],
+    bstart: usize,
+    brows: usize,
+    bcols: usize,
+    brs: i64,
+    bcs: i64,
+    beta: f32,
+    c: &mut [f32],
+    cstart: usize,
+    crows: usize,
+    ccols: usize,
+    crs: i64,
+    ccs: i64,
+) -> u8
+    ensures { λ r. ⌜ Returns real32 (symmC real32 side uplo alpha (lent real32 (now (a .entry)) (viewOf astart arows acols ars acs)) (lent real32 (now (b .entry)) (viewOf bstart brows bcols brs bcs)) beta (lent real32 (now (c .entry)) (viewOf cstart crows ccols crs ccs))) r (now (c .exit)) ⌝ }
+{
+    let va = view_of(astart, arows, acols, ars, acs);
+    let vb = view_of(bstart, brows, bcols, brs, bcs);
+    let vc = view_of(cstart, crows, ccols, crs, ccs);
+    if is_side_uplo(side, uplo) {
+        number(product::real32::symm(
+            side_of(side),
+            uplo_of(uplo),
+            Real32(alpha),
+            a,
+            va,
+            b,
+            vb,
+            Real32(beta),
+            c,
+            vc,
+        ))
+    } else {
+        number(refuse3(va, a.len(), vb, b.len(), vc, c.len()))
+    }
+}
+
+// C ← alpha A B + beta C or alpha B A + beta C, A Hermitian
+#[no_mangle]
+pub extern "C" fn zb_shemm(
+    side: u8,
+    uplo: u8,
+    alpha: f32,
+    a: &[f32],
+    astart: usize,
+    arows: usize,
+    acols: usize,
+    ars: i64,
+    acs: i64,
+    b: &[f32],
+    bstart: usize,
+    brows: usize,
+    bcols: usize,
+    brs: i64,
+    bcs: i64,
+    beta: f32,
+    c: &mut [f32],
+    cstart: usize,
+    crows: usize,
+    ccols: usize,
+    crs: i64,
+    ccs: i64,
+) -> u8
+    ensures { λ r. ⌜ Returns real32 (hemmC real32 side uplo alpha (lent real32 (now (a .entry)) (viewOf astart arows acols ars acs)) (lent real32 (now (b .entry)) (viewOf bstart brows bcols brs bcs)) beta (lent real32 (now (c .entry)) (viewOf cstart crows ccols crs ccs))) r (now (c .exit)) ⌝ }
+{
+    let va = view_of(astart, arows, acols, ars, acs);
+    let vb = view_of(bstart, brows, bcols, brs, bcs);
+    let vc = view_of(cstart, crows, ccols, crs, ccs);
+    if is_side_uplo(side, uplo) {
+        number(product::real32::hemm(
+            side_of(side),
+            uplo_of(uplo),
+            Real32(alpha),
+            a,
+            va,
+            b,
+            vb,
+            Real32(beta),
+            c,
+            vc,
+        ))
+    } else {
+        number(refuse3(va, a.len(), vb, b.len(), vc, c.len()))
+    }
+}
+
+// C ← alpha A Aᵀ + beta C or alpha Aᵀ A + beta C, in the named triangle
+#[no_mangle]
+pub extern "C" fn zb_ssyrk(
+    uplo: u8,
+    trans: u8,
+    alpha: f32,
+    a: &[f32],
+    astart: usize,
+    arows: usize,
+    acols: usize,
+    ars: i64,
+    acs: i64,
+    beta: f32,
+    c: &mut [f32],
+    cstart: usize,
+    crows: usize,
+    ccols: usize,
+    crs: i64,
+    ccs: i64,
+) -> u8
+    ensures { λ r. ⌜ Returns real32 (syrkC real32 uplo trans alpha (lent real32 (now (a .entry)) (viewOf astart arows acols ars acs)) beta (lent real32 (now (c .entry)) (viewOf cstart crows ccols crs ccs))) r (now (c .exit)) ⌝ }
+{
+    let va = view_of(astart, arows, acols, ars, acs);
+    let vc = view_of(cstart, crows, ccols, crs, ccs);
+    if is_uplo_trans(uplo, trans) {
+        number(product::real32::syrk(
+            uplo_of(uplo),
+            trans_of(trans),
+            Real32(alpha),
+            a,
+            va,
+            Real32(beta),
+            c,
+            vc,
+        ))
+    } else {
+        number(refuse2(va, a.len(), vc, c.len()))
+    }
+}
+
+// C ← alpha A Aᴴ + beta C or alpha Aᴴ A + beta C, in the named triangle, alpha and beta real
+#[no_mangle]
+pub extern "C" fn zb_sherk(
+    uplo: u8,
+    trans: u8,
+    alpha: f32,
+    a: &[f32],
+    astart: usize,
+    arows: usize,
+    acols: usize,
+    ars: i64,
+    acs: i64,
+    beta: f32,
+    c: &mut [f32],
+    cstart: usize,
+    crows: usize,
+    ccols: usize,
+    crs: i64,
+    ccs: i64,
+) -> u8
+    ensures { λ r. ⌜ Returns real32 (herkC real32 uplo trans alpha (lent real32 (now (a .entry)) (viewOf astart arows acols ars acs)) beta (lent real32 (now (c .entry)) (viewOf cstart crows ccols crs ccs))) r (now (c .exit)) ⌝ }
+{
+    let va = view_of(astart, arows, acols, ars, acs);
+    let vc = view_of(cstart, crows, ccols, crs, ccs);
+    if is_uplo_trans(uplo, trans) {
+        number(product::real32::herk(uplo_of(uplo), trans_of(trans), alpha, a, va, beta, c, vc))
+    } else {
+        number(refuse2(va, a.len(), vc, c.len()))
+    }
+}
