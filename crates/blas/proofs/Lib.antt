@@ -1,3 +1,4 @@
 -- Laws of what the definitions share, over any number kind.
 pub mod SumLaws
 pub mod OutcomeLaws
+pub mod Elements

@@ -1,6 +1,7 @@
 -- The BLAS routines, each in a file of its own, for any number kind. Matrix has what they share, Outcome what a call answers and leaves.
 pub mod Matrix
 pub mod Outcome
+pub mod Elements
 pub mod Gemv
 pub mod Hemv
 pub mod Gemm
