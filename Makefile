@@ -1,5 +1,5 @@
-# make demo: the worked numbers. make test: the gate. The rest compares with the Rust (oracle/).
-.PHONY: demo test oracle-test lists counts compare bench need-rt need-cargo need-cc
+# make demo: the worked numbers. make test: the gate. The rest builds the archive for C and compares with the Rust (oracle/).
+.PHONY: demo test archive c-test oracle-test lists counts compare bench need-rt need-cargo need-cc
 
 demo: need-rt
 	@mkdir -p target
@@ -12,13 +12,21 @@ test: need-rt
 	rt fmt --check
 	rt ci
 
+# target/staticlib/libcapi.a, for C and Rust; include/zirve_blas.h declares its functions.
+archive: need-rt
+	rt staticlib capi
+
+c-test: archive need-cc
+	$(CC) -std=c11 -O1 -Wall -Wextra -Iinclude -o target/c-test tests/c/products.c target/staticlib/libcapi.a -lm
+	target/c-test
+
 oracle-test: need-cargo need-cc
 	$(MAKE) -C oracle test
 
 lists counts: need-cargo need-cc
 	$(MAKE) -C oracle $@
 
-compare bench: need-rt need-cargo need-cc
+compare bench: archive need-cargo need-cc
 	$(MAKE) -C oracle $@
 
 need-rt:

@@ -9,3 +9,7 @@ pub mod Symm
 pub mod Hemm
 pub mod Syrk
 pub mod Herk
+pub mod Her
+pub mod Her2
+pub mod Syr2k
+pub mod Her2k

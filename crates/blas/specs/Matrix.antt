@@ -45,6 +45,11 @@ unfoldable pub sum : (K : Kind) → ℕ → (ℕ → K .Elem) → K .Elem
 sum K zero f = K .zero
 sum K (suc n) f = K .add (sum K n f) (f n)
 
+-- f 0 + g 0 + f 1 + g 1 + .. + f (n − 1) + g (n − 1): the same with two additions for each index
+unfoldable pub pairSum : (K : Kind) → ℕ → (ℕ → K .Elem) → (ℕ → K .Elem) → K .Elem
+pairSum K zero f g = K .zero
+pairSum K (suc n) f g = K .add (K .add (pairSum K n f g) (f n)) (g n)
+
 -- element (i, j) of the product of L and R, with n columns of L and n rows of R
 abbrev pub dot : (K : Kind) → ℕ → Matrix K → Matrix K → Matrix K
 dot K n l r i j = sum K n (λ p. K .mul (l i p) (r p j))

@@ -1,64 +1,8 @@
-// Runs the check of each routine on the calls of a fixed list, views and lengths alone, and prints for each routine how many of its
-// calls were answered as in the list. The list's form is that of oracle/README.md.
-mod calls;
-mod words;
-
-use libc::STDOUT_FILENO;
-
-// Reads one record and counts it by its routine; false where the list ends.
-fn replay_one(fd: i32, agreed: &mut [u64; 16], called: &mut [u64; 16]) -> bool {
-    let mut size = [0u8; 2];
-    if io::read_full(fd, &mut size) != 2 {
-        return false;
-    }
-    let mut body = [0u8; 152];
-    let n = words::body_length(&size);
-    if io::read_full(fd, &mut body[..n]) != n {
-        return false;
-    }
-    let r = words::below_16(body[0]);
-    called[r] = std::num::wrapping_add_u64(called[r], 1);
-    if view::number(calls::answer(&body)) == body[2] {
-        agreed[r] = std::num::wrapping_add_u64(agreed[r], 1);
-    }
-    true
-}
-
-// A proved loop has to end, so it counts its turns down, from a number that no list uses up.
-fn replay_all(fd: i32, agreed: &mut [u64; 16], called: &mut [u64; 16]) {
-    let mut turns = u64::MAX;
-    while turns > 0 && replay_one(fd, agreed, called) {
-        turns -= 1;
-    }
-}
-
-fn print_line(name: &[u8], agreed: u64, called: u64) {
-    io::write_all(STDOUT_FILENO, name);
-    io::write_all(STDOUT_FILENO, b" ");
-    io::print_decimal(STDOUT_FILENO, agreed);
-    io::write_all(STDOUT_FILENO, b" of ");
-    io::print_decimal(STDOUT_FILENO, called);
-    io::write_all(STDOUT_FILENO, b"\n");
-}
-
-fn print_all(agreed: &[u64; 16], called: &[u64; 16]) {
-    print_line(b"gemv", agreed[0], called[0]);
-    print_line(b"hemv", agreed[1], called[1]);
-    print_line(b"her", agreed[2], called[2]);
-    print_line(b"her2", agreed[3], called[3]);
-    print_line(b"trmv", agreed[4], called[4]);
-    print_line(b"trsv", agreed[5], called[5]);
-    print_line(b"gemm", agreed[6], called[6]);
-    print_line(b"symm", agreed[7], called[7]);
-    print_line(b"hemm", agreed[8], called[8]);
-    print_line(b"syrk", agreed[9], called[9]);
-    print_line(b"herk", agreed[10], called[10]);
-    print_line(b"syr2k", agreed[11], called[11]);
-    print_line(b"her2k", agreed[12], called[12]);
-    print_line(b"trmm", agreed[13], called[13]);
-    print_line(b"trsm", agreed[14], called[14]);
-    print_line(b"no routine", agreed[15], called[15]);
-}
+// Replays the list of checks: the refusals 1 to 4 of the fifteen routines, by views and lengths alone.
+use list::check_length;
+use list::check_view;
+use list::side;
+use list::trans;
 
 fn main() {
     let path = b"check.bin";
@@ -67,11 +11,89 @@ fn main() {
         os::fail(path);
         return;
     }
-    let mut head = [0u8; 16];
-    io::read_full(fd, &mut head);
-    let mut agreed = [0u64; 16];
-    let mut called = [0u64; 16];
-    replay_all(fd, &mut agreed, &mut called);
+    let mut calls = [0u64; 64];
+    let mut agreed = [0u64; 64];
+    let records = list::records(fd);
+    replay(fd, records, &mut calls, &mut agreed);
     libc::close(fd);
-    print_all(&agreed, &called);
+    list::report(records, &calls, &agreed);
+}
+
+fn replay(fd: i32, records: u64, calls: &mut [u64], agreed: &mut [u64]) {
+    let mut left = records;
+    while left > 0 && replay_one(fd, calls, agreed) {
+        left -= 1;
+    }
+}
+
+// Replays the next record, and answers whether there was one.
+fn replay_one(fd: i32, calls: &mut [u64], agreed: &mut [u64]) -> bool {
+    let mut space = io::buffer();
+    let n = list::next(fd, &mut space);
+    if n == 0 {
+        return false;
+    }
+    judge(&space[..n], calls, agreed);
+    true
+}
+
+fn judge(body: &[u8], calls: &mut [u64], agreed: &mut [u64]) {
+    list::count(body, agrees(body), calls, agreed);
+}
+
+fn agrees(body: &[u8]) -> bool {
+    if list::check_whole(body) {
+        answer(body) == list::answer(body)
+    } else {
+        false
+    }
+}
+
+// The number of the answer that the check of the record's routine gives; 255 where there is no such routine.
+fn answer(body: &[u8]) -> u8 {
+    if list::target(body) == 1 {
+        two_views(body)
+    } else {
+        three_views(body)
+    }
+}
+
+fn two_views(body: &[u8]) -> u8 {
+    let a = check_view(body, 0);
+    let la = check_length(body, 0);
+    let b = check_view(body, 1);
+    let lb = check_length(body, 1);
+    match list::routine(body) {
+        2 => view::number(view::check_her(a, la, b, lb)),
+        4 => view::number(view::check_trmv(a, la, b, lb)),
+        5 => view::number(view::check_trsv(a, la, b, lb)),
+        9 => view::number(view::check_syrk(trans(body, 1), a, la, b, lb)),
+        10 => view::number(view::check_herk(trans(body, 1), a, la, b, lb)),
+        13 => view::number(view::check_trmm(side(body, 0), a, la, b, lb)),
+        14 => view::number(view::check_trsm(side(body, 0), a, la, b, lb)),
+        _ => 255,
+    }
+}
+
+fn three_views(body: &[u8]) -> u8 {
+    let a = check_view(body, 0);
+    let la = check_length(body, 0);
+    let b = check_view(body, 1);
+    let lb = check_length(body, 1);
+    let c = check_view(body, 2);
+    let lc = check_length(body, 2);
+    let t = trans(body, 0);
+    let s = side(body, 0);
+    let u = trans(body, 1);
+    match list::routine(body) {
+        0 => view::number(view::check_gemv(t, a, la, b, lb, c, lc)),
+        1 => view::number(view::check_hemv(a, la, b, lb, c, lc)),
+        3 => view::number(view::check_her2(a, la, b, lb, c, lc)),
+        6 => view::number(view::check_gemm(t, u, a, la, b, lb, c, lc)),
+        7 => view::number(view::check_symm(s, a, la, b, lb, c, lc)),
+        8 => view::number(view::check_hemm(s, a, la, b, lb, c, lc)),
+        11 => view::number(view::check_syr2k(u, a, la, b, lb, c, lc)),
+        12 => view::number(view::check_her2k(u, a, la, b, lb, c, lc)),
+        _ => 255,
+    }
 }

@@ -16,7 +16,7 @@ use Rattle.view.specs.Place.{place, index}
 use Rattle.view.specs.Refusals.{tooLarge, outOfBounds, overlaps, isVector}
 use Rattle.view.specs.Vector.{vecStride}
 use Rattle.view.specs.Judge.{judge}
-use Rattle.view.specs.Checks.{vectorOf, gemvShape, gemmShape, trmmShape, symmShape, syrkShape}
+use Rattle.view.specs.Checks.{vectorOf, gemvShape, trmvShape, gemmShape, trmmShape, symmShape, syrkShape}
 use Rattle.slab.specs.Elem.{Lent, lent}
 use Rattle.slab.specs.Update.{step, row, rows}
 use Rattle.blas.specs.Matrix.{sum}
@@ -25,6 +25,7 @@ use Rattle.blas.specs.Gemv.{gemv}
 use Rattle.blas.specs.Gemm.{gemm}
 use Rattle.blas.specs.Symm.{symm}
 use Rattle.blas.specs.Syrk.{syrk}
+use Rattle.blas.specs.Her.{her}
 
 -- ---- how the rows write numbers, matrices and outcomes
 
@@ -114,3 +115,9 @@ W7 = refl
 pub W13 : gemv complex ConjTrans (complex .one) (single (f 1) (f 2)) (single (f 3) (f 0)) (complex .zero) (single nan nan) ≡ outcomeOf complex 0 (f 3 ∷ minus 6 ∷ [])
 unfolding gemv gemvShape vectorOf isVector vecStride judge tooLarge outOfBounds overlaps any place index rows row step sum add sub mul neg eq ofInt
 W13 = refl
+
+-- ---- W14: her Lower, a (1,5), x (1,1), alpha 2: (5,5); the diagonal's imaginary part stays
+
+pub W14 : her complex Lower (f 2) (single (f 1) (f 1)) (single (f 1) (f 5)) ≡ outcomeOf complex 0 (f 5 ∷ f 5 ∷ [])
+unfolding her trmvShape vectorOf isVector vecStride judge tooLarge outOfBounds overlaps any place index rows row step add sub mul neg ofInt
+W14 = refl

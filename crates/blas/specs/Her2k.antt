@@ -1,0 +1,30 @@
+-- her2k: C ← alpha A Bᴴ + conj(alpha) B Aᴴ + beta C (NoTrans) or alpha Aᴴ B + conj(alpha) Bᴴ A + beta C (ConjTrans), of which the named
+-- triangle is scaled and written. beta is real. Trans is taken as ConjTrans. alpha multiplies inside the sum, and not again outside.
+-- The diagonal's imaginary part is computed like any other.
+use Prim.Native.Nat.{ℕ}
+use Rattle.number.specs.Kind.{Kind}
+use Rattle.number.specs.Scaling.{scaledReal}
+use Rattle.slab.specs.Elem.{Lent}
+use Rattle.slab.specs.Update.{update}
+use Rattle.blas.specs.Matrix.{Matrix, matrix, inTriangle, op, pairSum, accumulate}
+use Rattle.blas.specs.Outcome.{Outcome, outcome}
+use Rattle.blas.specs.Herk.{herkLeft, herkRight}
+use Rattle.view.specs.declared.Trans.{Trans}
+use Rattle.view.specs.declared.UpLo.{UpLo}
+use Rattle.view.specs.Checks.{opCols, her2kCheck}
+
+-- element (i, j) of alpha A Bᴴ + conj(alpha) B Aᴴ, with n terms of each
+abbrev pub her2kProduct : (K : Kind) → Trans → K .Elem → ℕ → Matrix K → Matrix K → Matrix K
+her2kProduct K trans alpha n a b i j =
+    pairSum K n
+    (λ p. K .mul (K .mul alpha (op K (herkLeft trans) a i p)) (op K (herkRight trans) b p j))
+    (λ p. K .mul (K .mul (K .conj alpha) (op K (herkLeft trans) b i p)) (op K (herkRight trans) a p j))
+
+unfoldable pub her2k : (K : Kind) → UpLo → Trans → K .Elem → Lent K → Lent K → K .Factor → Lent K → Outcome K
+her2k K uplo trans alpha a b beta c =
+    outcome K
+    (her2kCheck trans (a .view) (K .count (a .slab)) (b .view) (K .count (b .slab)) (c .view) (K .count (c .slab)))
+    (update K (c .view) (inTriangle uplo)
+    (accumulate K (scaledReal K beta) (λ x. x) (her2kProduct K trans alpha (opCols trans (a .view)) (matrix K a) (matrix K b)))
+    (c .slab))
+    (c .slab)

@@ -1,0 +1,3 @@
+-- Lemmas that several proofs of the crate cite.
+mod Nan
+mod Complement

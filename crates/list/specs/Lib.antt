@@ -1,0 +1,3 @@
+-- What the numbers of a list mean.
+pub mod Little
+pub mod Alike

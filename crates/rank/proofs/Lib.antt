@@ -1,0 +1,5 @@
+-- What the code reads and writes is inside the slabs, why a call that its check passes is ready, and what each kernel has to show.
+pub mod Inside
+pub mod Laws
+pub mod Ready
+pub mod Kernels

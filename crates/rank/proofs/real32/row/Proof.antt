@@ -1,0 +1,59 @@
+use Prim.Native.Nat.{_≤_, _-_}
+use native.Mathlib.Omega.{arith}
+use mathlib.Core.Path.{_≡_, refl, _∙_}
+use lib.ListN.{length}
+use borrow.Author.Needs.{needs}
+use Rattle.number.specs.Kind.{real32}
+use Rattle.rank.specs.Tasks.{task32}
+use Rattle.rank.specs.Change.{changeRow}
+use Rattle.slab.specs.Update.{row as rowOf}
+use Rattle.slab.proofs.LoopLaws.{row-next, row-last}
+use Rattle.rank.proofs.Inside.{ready-at}
+use Rattle.rank.proofs.real32.row.Statement.{statement}
+use Rattle.rank.proofs.real32.row.Tie as tie
+
+abbrev Inv-loop : tie.InvT-loop
+Inv-loop task plan a b c₀ i n j₀ c j = (j ≤ n) × (length c ≡ length c₀) × (c ≡ changeRow real32 (task32 task) plan a b i j c₀)
+
+abbrev μ-loop : tie.MeasureT-loop
+μ-loop task plan a b c₀ i n j₀ c j = n - j
+
+cols-requires : tie.Need-cols-requires Inv-loop μ-loop
+cols-requires c κs = search needs
+
+loop-holds : tie.Need-loop-holds Inv-loop μ-loop
+unfolding rowOf
+loop-holds c = (omega arith, refl, refl)
+
+step-requires : tie.Need-step-requires Inv-loop μ-loop
+step-requires c κs = ready-at _ _ _ _ _ _ (c .before .before .loop .inv .1) _ (c .before .before .before .before .before .before .before .pre) _ _ (c .before .before .before .cols .ensures) (omega arith)
+
+add-j : tie.Need-add-j Inv-loop μ-loop
+add-j c = omega arith
+
+loop-less : tie.Need-loop-less Inv-loop μ-loop
+loop-less c = omega arith
+
+loop-again : tie.Need-loop-again Inv-loop μ-loop
+loop-again c = (omega arith, c .before .before .step .kept .1 .1 .1 .1 .0 ∙ c .before .before .before .before .before .loop .inv .1, row-next _ _ _ _ _ _ _ _ _ (c .before .before .before .before .before .loop .inv .2) (c .before .before .step .ensures))
+
+same-length : tie.Need-same-length Inv-loop μ-loop
+same-length c = c .before .loop .inv .1
+
+returns : tie.Need-returns Inv-loop μ-loop
+returns c = row-last _ _ _ _ _ _ _ _ _ (c .before .before .cols .ensures) (c .before .loop .inv .0) (omega arith) (c .before .loop .inv .2)
+
+pub row-spec : {M : Type 1} → statement M
+row-spec =
+    tie.close
+    (tie.spec
+    Inv-loop
+    μ-loop
+    cols-requires
+    loop-holds
+    step-requires
+    add-j
+    loop-less
+    loop-again
+    same-length
+    returns)

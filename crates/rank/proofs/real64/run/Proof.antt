@@ -1,0 +1,59 @@
+use Prim.Native.Nat.{_≤_, _-_}
+use native.Mathlib.Omega.{arith}
+use mathlib.Core.Path.{_≡_, refl, _∙_}
+use lib.ListN.{length}
+use borrow.Author.Needs.{needs}
+use Rattle.number.specs.Kind.{real64}
+use Rattle.rank.specs.Tasks.{task64}
+use Rattle.rank.specs.Change.{changeRows}
+use Rattle.slab.specs.Update.{rows as rowsOf}
+use Rattle.slab.proofs.LoopLaws.{rows-next, rows-last}
+use Rattle.rank.proofs.Inside.{ready-row}
+use Rattle.rank.proofs.real64.run.Statement.{statement}
+use Rattle.rank.proofs.real64.run.Tie as tie
+
+abbrev Inv-loop : tie.InvT-loop
+Inv-loop task plan a b c₀ m i₀ c i = (i ≤ m) × (length c ≡ length c₀) × (c ≡ changeRows real64 (task64 task) plan a b i c₀)
+
+abbrev μ-loop : tie.MeasureT-loop
+μ-loop task plan a b c₀ m i₀ c i = m - i
+
+rows-requires : tie.Need-rows-requires Inv-loop μ-loop
+rows-requires c κs = search needs
+
+loop-holds : tie.Need-loop-holds Inv-loop μ-loop
+unfolding rowsOf
+loop-holds c = (omega arith, refl, refl)
+
+row-requires : tie.Need-row-requires Inv-loop μ-loop
+row-requires c κs = ready-row _ _ _ _ _ _ (c .before .before .loop .inv .1) (c .before .before .before .before .before .before .before .pre) _ _ (c .before .before .before .rows .ensures) (omega arith)
+
+add-i : tie.Need-add-i Inv-loop μ-loop
+add-i c = omega arith
+
+loop-less : tie.Need-loop-less Inv-loop μ-loop
+loop-less c = omega arith
+
+loop-again : tie.Need-loop-again Inv-loop μ-loop
+loop-again c = (omega arith, c .before .before .row .kept .1 .1 .1 .1 .0 ∙ c .before .before .before .before .before .loop .inv .1, rows-next _ _ _ _ _ _ _ _ (c .before .before .before .before .before .loop .inv .2) (c .before .before .row .ensures))
+
+same-length : tie.Need-same-length Inv-loop μ-loop
+same-length c = c .before .loop .inv .1
+
+returns : tie.Need-returns Inv-loop μ-loop
+returns c = rows-last _ _ _ _ _ _ _ _ (c .before .before .rows .ensures) (c .before .loop .inv .0) (omega arith) (c .before .loop .inv .2)
+
+pub run-spec : {M : Type 1} → statement M
+run-spec =
+    tie.close
+    (tie.spec
+    Inv-loop
+    μ-loop
+    rows-requires
+    loop-holds
+    row-requires
+    add-i
+    loop-less
+    loop-again
+    same-length
+    returns)

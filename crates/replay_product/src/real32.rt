@@ -1,0 +1,85 @@
+// Replays a call in f32.
+use list::side;
+use list::trans;
+use list::uplo;
+use number::Real32;
+
+// Whether the call gives the record's answer and the target's slab after the call, and leaves the others.
+pub fn agrees(body: &[u8]) -> bool {
+    let last = list::target(body);
+    let a = list::slab32(body, list::slab(body, 0));
+    let b = list::slab32(body, list::slab(body, 1));
+    let mut c = list::slab32(body, list::slab(body, last));
+    let la = list::length(body, 0);
+    let lb = list::length(body, 1);
+    let lc = list::length(body, last);
+    compare(body, &a[..la], &b[..lb], &mut c[..lc])
+}
+
+fn compare(body: &[u8], a: &[f32], b: &[f32], c: &mut [f32]) -> bool {
+    if call(body, a, b, c) == list::answer(body) {
+        if list::same32(body, list::slab(body, 0), a) {
+            if list::same32(body, list::slab(body, 1), b) {
+                return list::same32(body, list::after(body), c);
+            }
+        }
+    }
+    false
+}
+
+fn call(body: &[u8], a: &[f32], b: &[f32], c: &mut [f32]) -> u8 {
+    if list::target(body) == 1 {
+        two_slabs(body, a, c)
+    } else {
+        three_slabs(body, a, b, c)
+    }
+}
+
+fn alpha(body: &[u8]) -> Real32 {
+    Real32(list::scalar32(body, 0))
+}
+
+fn beta(body: &[u8]) -> Real32 {
+    Real32(list::scalar32(body, 2))
+}
+
+// The number of the answer; 255 where there is no such routine.
+fn two_slabs(body: &[u8], a: &[f32], c: &mut [f32]) -> u8 {
+    let u = uplo(body, 0);
+    let t = trans(body, 1);
+    let va = list::view(body, 0);
+    let vc = list::view(body, 1);
+    match list::routine(body) {
+        9 => view::number(product::real32::syrk(u, t, alpha(body), a, va, beta(body), c, vc)),
+        10 => view::number(product::real32::herk(
+            u,
+            t,
+            list::scalar32(body, 0),
+            a,
+            va,
+            list::scalar32(body, 2),
+            c,
+            vc,
+        )),
+        _ => 255,
+    }
+}
+
+fn three_slabs(body: &[u8], a: &[f32], b: &[f32], c: &mut [f32]) -> u8 {
+    let p = alpha(body);
+    let q = beta(body);
+    let va = list::view(body, 0);
+    let vb = list::view(body, 1);
+    let vc = list::view(body, 2);
+    let t = trans(body, 0);
+    let v = trans(body, 1);
+    let s = side(body, 0);
+    match list::routine(body) {
+        0 => view::number(product::real32::gemv(t, p, a, va, b, vb, q, c, vc)),
+        1 => view::number(product::real32::hemv(uplo(body, 0), p, a, va, b, vb, q, c, vc)),
+        6 => view::number(product::real32::gemm(t, v, p, a, va, b, vb, q, c, vc)),
+        7 => view::number(product::real32::symm(s, uplo(body, 1), p, a, va, b, vb, q, c, vc)),
+        8 => view::number(product::real32::hemm(s, uplo(body, 1), p, a, va, b, vb, q, c, vc)),
+        _ => 255,
+    }
+}
