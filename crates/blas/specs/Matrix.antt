@@ -45,6 +45,11 @@ unfoldable pub sum : (K : Kind) → ℕ → (ℕ → K .Elem) → K .Elem
 sum K zero f = K .zero
 sum K (suc n) f = K .add (sum K n f) (f n)
 
+-- the same over the admitted indices alone; the others are skipped
+unfoldable pub sumOver : (K : Kind) → ℕ → (ℕ → Bool) → (ℕ → K .Elem) → K .Elem
+sumOver K zero admits f = K .zero
+sumOver K (suc n) admits f = cond (admits n) (K .add (sumOver K n admits f) (f n)) (sumOver K n admits f)
+
 -- f 0 + g 0 + f 1 + g 1 + .. + f (n − 1) + g (n − 1): the same with two additions for each index
 unfoldable pub pairSum : (K : Kind) → ℕ → (ℕ → K .Elem) → (ℕ → K .Elem) → K .Elem
 pairSum K zero f g = K .zero
