@@ -1,4 +1,5 @@
 -- hemv: y ← alpha A x + beta y, A Hermitian, of which the named triangle is read.
+-- The Rust decides: a diagonal element is read whole, its imaginary part too; beta, the sum and alpha are as in gemm.
 use Rattle.number.specs.Kind.{Kind}
 use Rattle.number.specs.Scaling.{scaled}
 use Rattle.slab.specs.Elem.{Lent}

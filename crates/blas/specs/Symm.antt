@@ -1,4 +1,5 @@
 -- symm: C ← alpha A B + beta C (Left) or alpha B A + beta C (Right), A symmetric, of which the named triangle is read.
+-- The Rust decides: beta, the sum and alpha are as in gemm.
 use Rattle.number.specs.Kind.{Kind}
 use Rattle.number.specs.Scaling.{scaled}
 use Rattle.slab.specs.Elem.{Lent}

@@ -1,5 +1,5 @@
 -- syrk: C ← alpha A Aᵀ + beta C (NoTrans) or alpha Aᵀ A + beta C (Trans), of which the named triangle is scaled and written.
--- ConjTrans is taken as the unconjugated transpose.
+-- The Rust decides: ConjTrans is taken as the unconjugated transpose; beta, the sum and alpha are as in gemm.
 use Rattle.number.specs.Kind.{Kind}
 use Rattle.number.specs.Scaling.{scaled}
 use Rattle.slab.specs.Elem.{Lent}
