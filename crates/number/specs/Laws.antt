@@ -87,6 +87,10 @@ pub record Laws (K : Kind) : Type 0 where
 
 -- ---- exactness on whole numbers: K's operations beside those of the exact kind Z
 
+-- x is the whole number z: equal as a number to z, written as a number of K
+abbrev pub Whole : (K Z : Kind) → (Z .Elem → K .Elem) → K .Elem → Z .Elem → Type 0
+Whole K Z ofWhole x z = Same K x (ofWhole z)
+
 pub record Exact (K Z : Kind) : Type 0 where
   -- a whole number as an element and as a real factor, and its size
   pub ofWhole : Z .Elem → K .Elem
@@ -95,19 +99,19 @@ pub record Exact (K Z : Kind) : Type 0 where
   pub sizeFactor : Z .Factor → ℕ
   -- every whole number up to it is held exactly
   pub bound : ℕ
-  pub zero-exact : Same K (K .zero) (ofWhole (Z .zero))
-  pub one-exact : Same K (K .one) (ofWhole (Z .one))
-  pub add-exact : {x y : K .Elem} {a b : Z .Elem} → Same K x (ofWhole a) → Same K y (ofWhole b) → size a + size b ≤ bound
-      → Same K (K .add x y) (ofWhole (Z .add a b))
-  pub sub-exact : {x y : K .Elem} {a b : Z .Elem} → Same K x (ofWhole a) → Same K y (ofWhole b) → size a + size b ≤ bound
-      → Same K (K .sub x y) (ofWhole (Z .sub a b))
-  pub mul-exact : {x y : K .Elem} {a b : Z .Elem} → Same K x (ofWhole a) → Same K y (ofWhole b) → size a * size b ≤ bound
-      → Same K (K .mul x y) (ofWhole (Z .mul a b))
-  pub conj-exact : {x : K .Elem} {a : Z .Elem} → Same K x (ofWhole a) → Same K (K .conj x) (ofWhole (Z .conj a))
-  pub scale-exact : {v : K .Factor} {x : K .Elem} {c : Z .Factor} {a : Z .Elem} → SameFactor K v (ofWholeFactor c) → Same K x (ofWhole a)
-      → sizeFactor c * size a ≤ bound → Same K (K .scaleReal v x) (ofWhole (Z .scaleReal c a))
-  pub isZero-exact : {x : K .Elem} {a : Z .Elem} → Same K x (ofWhole a) → K .isZero x ≡ Z .isZero a
-  pub isOne-exact : {x : K .Elem} {a : Z .Elem} → Same K x (ofWhole a) → K .isOne x ≡ Z .isOne a
+  pub zero-exact : Whole K Z ofWhole (K .zero) (Z .zero)
+  pub one-exact : Whole K Z ofWhole (K .one) (Z .one)
+  pub add-exact : {x y : K .Elem} {a b : Z .Elem} → Whole K Z ofWhole x a → Whole K Z ofWhole y b → size a + size b ≤ bound
+      → Whole K Z ofWhole (K .add x y) (Z .add a b)
+  pub sub-exact : {x y : K .Elem} {a b : Z .Elem} → Whole K Z ofWhole x a → Whole K Z ofWhole y b → size a + size b ≤ bound
+      → Whole K Z ofWhole (K .sub x y) (Z .sub a b)
+  pub mul-exact : {x y : K .Elem} {a b : Z .Elem} → Whole K Z ofWhole x a → Whole K Z ofWhole y b → size a * size b ≤ bound
+      → Whole K Z ofWhole (K .mul x y) (Z .mul a b)
+  pub conj-exact : {x : K .Elem} {a : Z .Elem} → Whole K Z ofWhole x a → Whole K Z ofWhole (K .conj x) (Z .conj a)
+  pub scale-exact : {v : K .Factor} {x : K .Elem} {c : Z .Factor} {a : Z .Elem} → SameFactor K v (ofWholeFactor c) → Whole K Z ofWhole x a
+      → sizeFactor c * size a ≤ bound → Whole K Z ofWhole (K .scaleReal v x) (Z .scaleReal c a)
+  pub isZero-exact : {x : K .Elem} {a : Z .Elem} → Whole K Z ofWhole x a → K .isZero x ≡ Z .isZero a
+  pub isOne-exact : {x : K .Elem} {a : Z .Elem} → Whole K Z ofWhole x a → K .isOne x ≡ Z .isOne a
   pub isZeroFactor-exact : {v : K .Factor} {c : Z .Factor} → SameFactor K v (ofWholeFactor c) → K .isZeroFactor v ≡ Z .isZeroFactor c
   pub isOneFactor-exact : {v : K .Factor} {c : Z .Factor} → SameFactor K v (ofWholeFactor c) → K .isOneFactor v ≡ Z .isOneFactor c
   pub size-zero : size (Z .zero) ≡ 0
