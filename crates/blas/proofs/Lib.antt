@@ -2,3 +2,6 @@
 pub mod SumLaws
 pub mod OutcomeLaws
 pub mod Elements
+pub mod OverLaws
+pub mod SubstitutionLaws
+pub mod WorkedTriangles

@@ -3,7 +3,8 @@ use Prim.Native.Nat.{ℕ}
 use Rattle.number.specs.Kind.{Kind}
 use Rattle.slab.specs.Elem.{Lent}
 use Rattle.slab.specs.Update.{update}
-use Rattle.blas.specs.Matrix.{Matrix, vector, inTriangle}
+use Rattle.blas.specs.Matrix.{Matrix, vector}
+use Rattle.view.specs.Triangle.{inTriangle}
 use Rattle.blas.specs.Outcome.{Outcome, outcome}
 use Rattle.view.specs.declared.UpLo.{UpLo}
 use Rattle.view.specs.Checks.{her2Check}

@@ -13,3 +13,9 @@ pub mod Her
 pub mod Her2
 pub mod Syr2k
 pub mod Her2k
+pub mod Triangular
+pub mod Trmv
+pub mod Trmm
+pub mod Substitution
+pub mod Trsv
+pub mod Trsm

@@ -1,12 +1,11 @@
 -- Matrices and vectors as functions of row and column, the papers' readings of them, and sums of products.
 use Prim.Native.Nat.{ℕ, zero, suc}
 use mathlib.Core.Bool.{Bool, cond}
-use lib.Dec.{leb}
 use Rattle.number.specs.Kind.{Kind}
 use Rattle.view.specs.declared.Trans.{Trans}
 use Rattle.view.specs.declared.Trans.the-variants.{NoTrans, Trans as Transposed, ConjTrans}
 use Rattle.view.specs.declared.UpLo.{UpLo}
-use Rattle.view.specs.declared.UpLo.the-variants.{Upper, Lower}
+use Rattle.view.specs.Triangle.{inTriangle}
 use Rattle.view.specs.Vector.{columnOf}
 use Rattle.slab.specs.Elem.{Lent, elem}
 
@@ -27,11 +26,6 @@ op K NoTrans a i j = a i j
 op K Transposed a i j = a j i
 op K ConjTrans a i j = K .conj (a j i)
 
--- (i, j) is in the named triangle, the diagonal included
-abbrev pub inTriangle : UpLo → ℕ → ℕ → Bool
-inTriangle Upper i j = leb i j
-inTriangle Lower i j = leb j i
-
 -- the symmetric matrix whose named triangle is A's
 abbrev pub symmetric : (K : Kind) → UpLo → Matrix K → Matrix K
 symmetric K uplo a i j = cond (inTriangle uplo i j) (a i j) (a j i)
@@ -44,6 +38,11 @@ hermitian K uplo a i j = cond (inTriangle uplo i j) (a i j) (K .conj (a j i))
 unfoldable pub sum : (K : Kind) → ℕ → (ℕ → K .Elem) → K .Elem
 sum K zero f = K .zero
 sum K (suc n) f = K .add (sum K n f) (f n)
+
+-- the same over the admitted indices alone; the others are skipped
+unfoldable pub sumOver : (K : Kind) → ℕ → (ℕ → Bool) → (ℕ → K .Elem) → K .Elem
+sumOver K zero admits f = K .zero
+sumOver K (suc n) admits f = cond (admits n) (K .add (sumOver K n admits f) (f n)) (sumOver K n admits f)
 
 -- f 0 + g 0 + f 1 + g 1 + .. + f (n − 1) + g (n − 1): the same with two additions for each index
 unfoldable pub pairSum : (K : Kind) → ℕ → (ℕ → K .Elem) → (ℕ → K .Elem) → K .Elem

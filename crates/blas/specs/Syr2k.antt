@@ -5,7 +5,8 @@ use Rattle.number.specs.Kind.{Kind}
 use Rattle.number.specs.Scaling.{scaled}
 use Rattle.slab.specs.Elem.{Lent}
 use Rattle.slab.specs.Update.{update}
-use Rattle.blas.specs.Matrix.{Matrix, matrix, inTriangle, op, pairSum, accumulate}
+use Rattle.blas.specs.Matrix.{Matrix, matrix, op, pairSum, accumulate}
+use Rattle.view.specs.Triangle.{inTriangle}
 use Rattle.blas.specs.Outcome.{Outcome, outcome}
 use Rattle.blas.specs.Syrk.{syrkLeft, syrkRight}
 use Rattle.view.specs.declared.Trans.{Trans}

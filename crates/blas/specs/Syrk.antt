@@ -4,7 +4,8 @@ use Rattle.number.specs.Kind.{Kind}
 use Rattle.number.specs.Scaling.{scaled}
 use Rattle.slab.specs.Elem.{Lent}
 use Rattle.slab.specs.Update.{update}
-use Rattle.blas.specs.Matrix.{matrix, inTriangle, op, dot, accumulate}
+use Rattle.blas.specs.Matrix.{matrix, op, dot, accumulate}
+use Rattle.view.specs.Triangle.{inTriangle}
 use Rattle.blas.specs.Outcome.{Outcome, outcome}
 use Rattle.view.specs.declared.Trans.{Trans}
 use Rattle.view.specs.declared.Trans.the-variants.{NoTrans, Trans as Transposed, ConjTrans}

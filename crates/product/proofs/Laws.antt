@@ -11,7 +11,8 @@ use Rattle.view.specs.Place.{index}
 use Rattle.view.specs.PlaceLaws.{fits→index-lt}
 use Rattle.view.specs.Steps.{Shown}
 use Rattle.slab.specs.Elem.{elem}
-use Rattle.blas.specs.Matrix.{Matrix, inTriangle}
+use Rattle.blas.specs.Matrix.{Matrix}
+use Rattle.view.specs.Triangle.{inTriangle}
 use Rattle.product.specs.declared.plan.Reading.{Reading}
 use Rattle.product.specs.declared.plan.Reading.the-variants.{Op, Symmetric, Hermitian}
 use Rattle.product.specs.declared.plan.Spot.{Spot}

@@ -18,7 +18,7 @@ use Rattle.view.specs.Checks.{opRows, opCols, gemvShape, hemvShape, gemmShape, 
 use Rattle.view.specs.JudgeLaws.{Passed, gemv-sizes, hemv-sizes, gemm-sizes, symm-sizes, syrk-sizes}
 use Rattle.view.specs.Vector.{columnOf}
 use Rattle.view.specs.VectorLaws.{column-accepted}
-use Rattle.blas.specs.Matrix.{inTriangle}
+use Rattle.view.specs.Triangle.{inTriangle}
 use Rattle.blas.specs.Syrk.{syrkLeft, syrkRight}
 use Rattle.blas.specs.Herk.{herkLeft, herkRight}
 use Rattle.product.specs.declared.plan.Reading.{Reading}

@@ -11,7 +11,8 @@ use Rattle.view.specs.Steps.{Accepted}
 use Rattle.slab.specs.Elem.{elem}
 use Rattle.slab.specs.Update.{everywhere, update}
 use Rattle.slab.specs.Update as Update
-use Rattle.blas.specs.Matrix.{Matrix, op, inTriangle, symmetric, hermitian, dot, accumulate}
+use Rattle.blas.specs.Matrix.{Matrix, op, symmetric, hermitian, dot, accumulate}
+use Rattle.view.specs.Triangle.{inTriangle}
 use Rattle.product.specs.declared.plan.Reading.{Reading}
 use Rattle.product.specs.declared.plan.Reading.the-variants.{Op, Symmetric, Hermitian}
 use Rattle.product.specs.declared.plan.Mask.{Mask}

@@ -1,11 +1,12 @@
 // The plan of a product: the same for every number kind.
 
 ghost use mathlib.Core.Path.{_≡_};
-ghost use Rattle.blas.specs.Matrix.{inTriangle};
+ghost use Rattle.view.specs.Triangle.{inTriangle};
 ghost use Rattle.product.specs.Plan.{admits, mirrored, spotOf};
 use view::Trans;
 use view::UpLo;
 use view::View;
+use view::in_triangle;
 
 // How an operand is read: as op(A), or as the symmetric or Hermitian matrix of its named triangle.
 pub enum Reading {
@@ -36,15 +37,6 @@ pub struct Plan {
     pub b: View,
     pub terms: usize,
     pub target: View,
-}
-
-pub fn in_triangle(uplo: UpLo, i: usize, j: usize) -> bool
-    ensures { λ r. ⌜ r ≡ inTriangle uplo i j ⌝ }
-{
-    match uplo {
-        UpLo::Upper => i <= j,
-        UpLo::Lower => j <= i,
-    }
 }
 
 pub fn admitted(mask: Mask, i: usize, j: usize) -> bool

@@ -6,7 +6,8 @@ use Rattle.view.specs.declared.Trans.{Trans}
 use Rattle.view.specs.Place.{index}
 use Rattle.slab.specs.Elem.{elem}
 use Rattle.slab.specs.Update as Update
-use Rattle.blas.specs.Matrix.{Matrix, op, inTriangle, pairSum}
+use Rattle.blas.specs.Matrix.{Matrix, op, pairSum}
+use Rattle.view.specs.Triangle.{inTriangle}
 use Rattle.rank.specs.declared.plan.Plan.{Plan}
 
 -- the routine, with its scalars; for beta, what it does to an element

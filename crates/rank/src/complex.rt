@@ -15,7 +15,6 @@ ghost use Rattle.rank.specs.Change.{productAt, pairAt, pairsAt, change, 
 ghost use Rattle.rank.specs.Ready.{Shows, Readable, Factors, Entry, Ready, ReadyRow, ReadyAt};
 use crate::plan::Plan;
 use crate::plan::her2k_plan;
-use crate::plan::in_triangle;
 use crate::plan::syr2k_plan;
 use crate::plan::vectors_plan;
 use number::BetaComplex;
@@ -31,6 +30,7 @@ use view::check_her2;
 use view::check_her2k;
 use view::check_syr2k;
 use view::cols;
+use view::in_triangle;
 use view::passed;
 use view::place;
 use view::rows;

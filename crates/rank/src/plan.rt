@@ -3,7 +3,6 @@
 ghost use mathlib.Core.Path.{_≡_};
 ghost use mathlib.Core.Bool.{true};
 ghost use Rattle.view.specs.Refusals.{isVector};
-ghost use Rattle.blas.specs.Matrix.{inTriangle};
 ghost use Rattle.rank.specs.Plan.{syrReadings, herReadings, vectorsPlan, pairedPlan, syr2kPlan, her2kPlan};
 use view::Trans;
 use view::UpLo;
@@ -27,15 +26,6 @@ pub struct Plan {
     pub b: View,
     pub terms: usize,
     pub target: View,
-}
-
-pub fn in_triangle(uplo: UpLo, i: usize, j: usize) -> bool
-    ensures { λ r. ⌜ r ≡ inTriangle uplo i j ⌝ }
-{
-    match uplo {
-        UpLo::Upper => i <= j,
-        UpLo::Lower => j <= i,
-    }
 }
 
 // x and y, as columns.

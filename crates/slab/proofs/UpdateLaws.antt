@@ -54,7 +54,7 @@ written K v u i j s = K .put s (index v i j) (u i j (elem K s v i j))
 
 module _ (K : Kind) (v : View) (mask mask' : Mask) (u u' : Change K) (R : List (K .Cell) → List (K .Cell) → Type 0) where
   -- both folds admit (i, j) or neither does, and its writes keep the relation
-  abbrev Keeps : ℕ → ℕ → Type 0
+  abbrev pub Keeps : ℕ → ℕ → Type 0
   Keeps i j =
       (mask i j ≡ mask' i j) × (mask i j ≡ true → (s t : List (K .Cell)) → R s t → R (written K v u i j s) (written K v u' i j t))
 
@@ -66,12 +66,12 @@ module _ (K : Kind) (v : View) (mask mask' : Mask) (u u' : Change K) (R : List (
       go true e = h .1 e s t r
       go false e = r
 
-  row-both : (i a n : ℕ) → a ≤ n → ((j : ℕ) → a ≤ j → j < n → Keeps i j) → (s t : List (K .Cell)) →
+  pub row-both : (i a n : ℕ) → a ≤ n → ((j : ℕ) → a ≤ j → j < n → Keeps i j) → (s t : List (K .Cell)) →
       R (row K v mask u i a s) (row K v mask' u' i a t) → R (row K v mask u i n s) (row K v mask' u' i n t)
   unfolding row
   row-both i a n h k s t r = climb (λ n. R (row K v mask u i n s) (row K v mask' u' i n t)) a n h (λ j p q. step-both i j (k j p q) _ _) r
 
-  rows-both : (a m : ℕ) → a ≤ m → ((i : ℕ) → a ≤ i → i < m → (j : ℕ) → j < v .cols → Keeps i j) → (s t : List (K .Cell)) →
+  pub rows-both : (a m : ℕ) → a ≤ m → ((i : ℕ) → a ≤ i → i < m → (j : ℕ) → j < v .cols → Keeps i j) → (s t : List (K .Cell)) →
       R (rows K v mask u a s) (rows K v mask' u' a t) → R (rows K v mask u m s) (rows K v mask' u' m t)
   unfolding rows row
   rows-both a m h k s t r =

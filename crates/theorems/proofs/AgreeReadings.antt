@@ -14,7 +14,8 @@ use Rattle.view.specs.declared.UpLo.{UpLo}
 use Rattle.view.specs.declared.UpLo.the-variants.{Upper, Lower}
 use Rattle.view.specs.Checks.{opRows, opCols}
 use Rattle.slab.specs.Update.{Mask}
-use Rattle.blas.specs.Matrix.{Matrix, op, inTriangle, symmetric, hermitian}
+use Rattle.blas.specs.Matrix.{Matrix, op, symmetric, hermitian}
+use Rattle.view.specs.Triangle.{inTriangle}
 use Rattle.theorems.specs.Agreement.{Named, wholeMatrix, triangle}
 
 -- element (i, p) of the reading is element (r, c), or its conjugate

@@ -19,7 +19,8 @@ use Rattle.view.specs.Steps.{Accepted}
 use Rattle.view.specs.Checks.{opRows, opCols, orderOf}
 use Rattle.slab.specs.Elem.{Lent, elem}
 use Rattle.slab.specs.Update.{Mask, everywhere, update}
-use Rattle.blas.specs.Matrix.{Matrix, matrix, op, inTriangle, symmetric, hermitian, dot, accumulate}
+use Rattle.blas.specs.Matrix.{Matrix, matrix, op, symmetric, hermitian, dot, accumulate}
+use Rattle.view.specs.Triangle.{inTriangle}
 use Rattle.blas.specs.Outcome.{outcome}
 use Rattle.theorems.specs.Exactness.{Scalar, RealScalar, Shows, largestScalarPart}
 use Rattle.theorems.proofs.ExactSums.{Room, room-old, room-product, mul-sized, scale-sized, scaled-sized, scaled-real-sized, accumulate-exact}

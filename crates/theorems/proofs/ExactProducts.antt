@@ -17,7 +17,8 @@ use Rattle.view.specs.Vector.{columnOf}
 use Rattle.view.specs.VectorLaws.{column-accepted, column-no-overlap}
 use Rattle.slab.specs.Elem.{Lent}
 use Rattle.slab.specs.Update.{everywhere, update}
-use Rattle.blas.specs.Matrix.{Matrix, matrix, vector, op, inTriangle, dot, accumulate}
+use Rattle.blas.specs.Matrix.{Matrix, matrix, vector, op, dot, accumulate}
+use Rattle.view.specs.Triangle.{inTriangle}
 use Rattle.blas.specs.Outcome.{Outcome, outcome}
 use Rattle.blas.specs.Gemv.{gemv}
 use Rattle.blas.specs.Hemv.{hemv}

@@ -14,7 +14,8 @@ use Rattle.view.specs.declared.UpLo.{UpLo}
 use Rattle.view.specs.declared.UpLo.the-variants.{Upper, Lower}
 use Rattle.view.specs.Checks.{opRows, opCols}
 use Rattle.slab.specs.Update.{Mask, everywhere}
-use Rattle.blas.specs.Matrix.{Matrix, op, inTriangle, symmetric, hermitian, dot}
+use Rattle.blas.specs.Matrix.{Matrix, op, symmetric, hermitian, dot}
+use Rattle.view.specs.Triangle.{inTriangle}
 use Rattle.theorems.proofs.ExactSums.{Room, room-sum, Sized, dot-exact}
 
 -- of an element and its mirror image at least one is in the named triangle

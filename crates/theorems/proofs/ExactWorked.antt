@@ -24,7 +24,8 @@ use Rattle.view.specs.Checks.{symmShape, trmmShape, vectorOf, gemvShape}
 use Rattle.view.specs.Vector.{vecStride, columnOf}
 use Rattle.slab.specs.Elem.{Lent, lent, elem}
 use Rattle.slab.specs.Update.{Mask, everywhere}
-use Rattle.blas.specs.Matrix.{Matrix, matrix, vector, inTriangle, sum}
+use Rattle.blas.specs.Matrix.{Matrix, matrix, vector, sum}
+use Rattle.view.specs.Triangle.{inTriangle}
 use Rattle.blas.specs.Outcome.{Outcome}
 use Rattle.blas.specs.Symm.{symm}
 use Rattle.blas.specs.Gemv.{gemv}

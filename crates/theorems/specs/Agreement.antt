@@ -14,7 +14,8 @@ use Rattle.view.specs.declared.Side.{Side}
 use Rattle.view.specs.Refusals.{tooLarge, outOfBounds}
 use Rattle.slab.specs.Elem.{Lent}
 use Rattle.slab.specs.Update.{Mask}
-use Rattle.blas.specs.Matrix.{matrix, inTriangle}
+use Rattle.blas.specs.Matrix.{matrix}
+use Rattle.view.specs.Triangle.{inTriangle}
 use Rattle.blas.specs.Outcome.{Outcome}
 use Rattle.blas.specs.Gemv.{gemv}
 use Rattle.blas.specs.Gemm.{gemm}

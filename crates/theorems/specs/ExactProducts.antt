@@ -12,7 +12,8 @@ use Rattle.view.specs.declared.Side.the-variants.{Left, Right}
 use Rattle.view.specs.Checks.{opCols, orderOf}
 use Rattle.slab.specs.Elem.{Lent}
 use Rattle.slab.specs.Update.{everywhere}
-use Rattle.blas.specs.Matrix.{Matrix, op, inTriangle, symmetric, hermitian, dot}
+use Rattle.blas.specs.Matrix.{Matrix, op, symmetric, hermitian, dot}
+use Rattle.view.specs.Triangle.{inTriangle}
 use Rattle.blas.specs.Gemv.{gemv}
 use Rattle.blas.specs.Hemv.{hemv}
 use Rattle.blas.specs.Gemm.{gemm}

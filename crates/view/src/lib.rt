@@ -8,6 +8,7 @@ ghost use mir.Val.{SFits};
 ghost use Rattle.view.specs.Place.{index};
 ghost use Rattle.view.specs.Refusals.{isVector, vecLength};
 ghost use Rattle.view.specs.Vector.{vecCoord, columnOf};
+ghost use Rattle.view.specs.Triangle.{inTriangle};
 ghost use Rattle.view.specs.Judge.{answerNumber, isDone};
 ghost use Rattle.view.specs.Steps.{Shown};
 
@@ -189,5 +190,15 @@ pub fn column(v: View) -> View
             rs: v.cs,
             cs: 0,
         }
+    }
+}
+
+// Whether (i, j) is in the named triangle, the diagonal included.
+pub fn in_triangle(uplo: UpLo, i: usize, j: usize) -> bool
+    ensures { λ r. ⌜ r ≡ inTriangle uplo i j ⌝ }
+{
+    match uplo {
+        UpLo::Upper => i <= j,
+        UpLo::Lower => j <= i,
     }
 }

@@ -1,0 +1,31 @@
+-- trsm: op(A) X = alpha B (Left) or X op(A) = alpha B (Right) solved by substitution, A triangular; B becomes X.
+-- Left multiplies a right-hand side by alpha where it is solved, Right all of B first.
+use mathlib.Core.List.{List}
+use Rattle.number.specs.Kind.{Kind}
+use Rattle.slab.specs.Elem.{Lent}
+use Rattle.slab.specs.Update.{everywhere, update}
+use Rattle.blas.specs.Matrix.{Matrix, matrix}
+use Rattle.blas.specs.Outcome.{Outcome}
+use Rattle.blas.specs.Substitution.{attempt, substituted}
+use Rattle.view.specs.declared.View.{View}
+use Rattle.view.specs.declared.Trans.{Trans}
+use Rattle.view.specs.declared.UpLo.{UpLo}
+use Rattle.view.specs.declared.Diag.{Diag}
+use Rattle.view.specs.declared.Side.{Side}
+use Rattle.view.specs.declared.Side.the-variants.{Left, Right}
+use Rattle.view.specs.Checks.{trsmCheck}
+
+-- B with every shown element times alpha
+abbrev pub timesAlpha : (K : Kind) → K .Elem → View → List (K .Cell) → List (K .Cell)
+timesAlpha K alpha v s = update K v everywhere (λ i j x. K .mul alpha x) s
+
+abbrev pub sidedSolve : (K : Kind) → Side → UpLo → Trans → Diag → K .Elem → Matrix K → View → List (K .Cell) → Outcome K
+sidedSolve K Left uplo trans diag alpha a v s = substituted K Left uplo trans diag (K .mul alpha) a v s
+sidedSolve K Right uplo trans diag alpha a v s = substituted K Right uplo trans diag (λ b. b) a v (timesAlpha K alpha v s)
+
+unfoldable pub trsm : (K : Kind) → Side → UpLo → Trans → Diag → K .Elem → Lent K → Lent K → Outcome K
+trsm K side uplo trans diag alpha a b =
+    attempt K
+    (trsmCheck side (a .view) (K .count (a .slab)) (b .view) (K .count (b .slab)))
+    (sidedSolve K side uplo trans diag alpha (matrix K a) (b .view) (b .slab))
+    (b .slab)

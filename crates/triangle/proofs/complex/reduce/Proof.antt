@@ -1,0 +1,60 @@
+use Rattle.blas.proofs.SubstitutionLaws.{less-start, less-step, less-end}
+use Prim.Native.Nat.{_≤_, _-_}
+use native.Mathlib.Omega.{arith}
+use mathlib.Core.Path.{_≡_, sym}
+use borrow.Author.Needs.{needs}
+use Rattle.number.specs.Kind.{complex}
+use Rattle.slab.specs.Elem.{elem}
+use Rattle.blas.specs.Substitution.{less, brings as bringsOf, unknown as unknownOf}
+use Rattle.triangle.proofs.Places.{in-a, in-b, order-le}
+use Rattle.triangle.proofs.complex.reduce.Statement.{statement}
+use Rattle.triangle.proofs.complex.reduce.Tie as tie
+
+abbrev Inv-loop : tie.InvT-loop
+Inv-loop side t a va b vb q l from n rest₀ i₀ rest i = (i ≤ n) × (rest ≡ less complex rest₀ (λ p. bringsOf complex side t (elem complex a va) q p (unknownOf complex side b vb p l)) from i)
+
+abbrev μ-loop : tie.MeasureT-loop
+μ-loop side t a va b vb q l from n rest₀ i₀ rest i = n - i
+
+loop-holds : tie.Need-loop-holds Inv-loop μ-loop
+loop-holds c = (omega arith, sym (less-start complex _ _ _))
+
+add-p : tie.Need-add-p Inv-loop μ-loop
+add-p c = omega (arith, order-le _ _ _ _ _ (c .before .before .before .before .pre .at .sided), c .before .before .before .before .pre .range)
+
+unknown-requires : tie.Need-unknown-requires Inv-loop μ-loop
+unknown-requires c κs = in-b _ _ _ _ _ (c .before .before .before .before .pre .at .sided) _ _ (omega (arith, c .before .before .before .before .pre .range)) (c .before .before .before .before .pre .at .line)
+
+brings-requires : tie.Need-brings-requires Inv-loop μ-loop
+brings-requires c κs = in-a _ _ _ _ _ (c .before .before .before .before .before .pre .at .sided) _ _ (c .before .before .before .before .before .pre .at .unknown) (omega (arith, c .before .before .before .before .before .pre .range))
+
+sub-requires : tie.Need-sub-requires Inv-loop μ-loop
+sub-requires c κs = search needs
+
+add-i : tie.Need-add-i Inv-loop μ-loop
+add-i c = omega arith
+
+loop-less : tie.Need-loop-less Inv-loop μ-loop
+loop-less c = omega arith
+
+loop-again : tie.Need-loop-again Inv-loop μ-loop
+loop-again c = (omega arith, rw (less-step complex) (cc))
+
+returns : tie.Need-returns Inv-loop μ-loop
+returns c = less-end complex _ _ _ _ _ _ (c .before .loop .inv .0) (omega arith) (c .before .loop .inv .1)
+
+pub reduce-spec : {M : Type 1} → statement M
+reduce-spec =
+    tie.close
+    (tie.spec
+    Inv-loop
+    μ-loop
+    loop-holds
+    add-p
+    unknown-requires
+    brings-requires
+    sub-requires
+    add-i
+    loop-less
+    loop-again
+    returns)

@@ -1,0 +1,24 @@
+use Rattle.triangle.proofs.Places.{unknown-is, unknown-shown, unknown-inside}
+use native.Mathlib.Omega.{arith}
+use borrow.Author.Needs.{needs}
+use Rattle.triangle.proofs.complex.replace.Statement.{statement}
+use Rattle.triangle.proofs.complex.replace.Tie as tie
+
+unknown-coord-requires : tie.Need-unknown-coord-requires
+unknown-coord-requires c κs = search needs
+
+place-requires : tie.Need-place-requires
+place-requires c κs = unknown-shown _ _ _ _ _ (c .before .before .before .pre) _ (c .before .unknown-coord .ensures) (omega arith)
+
+put-complex-requires : tie.Need-put-complex-requires
+put-complex-requires c κs = omega (arith, unknown-inside _ _ _ _ _ (c .before .before .before .before .pre) _ (c .before .before .unknown-coord .ensures), c .place .ensures)
+
+same-length : tie.Need-same-length
+same-length c = search needs
+
+returns : tie.Need-returns
+returns c = let e = unknown-is _ _ _ _ _ (c .before .before .before .before .before .unknown-coord .ensures) _ (c .before .before .before .place .ensures) in cc
+
+pub replace-spec : {M : Type 1} → statement M
+replace-spec =
+    tie.close (tie.spec unknown-coord-requires place-requires put-complex-requires same-length returns)

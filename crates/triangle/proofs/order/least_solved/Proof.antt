@@ -1,0 +1,15 @@
+use borrow.Author.Needs.{needs}
+use Rattle.triangle.proofs.order.least_solved.Statement.{statement}
+use Rattle.triangle.proofs.order.least_solved.Tie as tie
+
+sub-result : tie.Need-sub-result
+sub-result c = search needs
+
+returns : tie.Need-returns
+returns c = rw (c .if1 .taken)
+
+returns-2 : tie.Need-returns-2
+returns-2 c = search needs
+
+pub least-solved-spec : {M : Type 1} → statement M
+least-solved-spec = tie.close (tie.spec sub-result returns returns-2)

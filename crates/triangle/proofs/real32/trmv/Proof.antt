@@ -1,0 +1,41 @@
+use lib.Ieee.{binary32}
+use Rattle.number.specs.Kind.{real32}
+use Rattle.number.proofs.Instances.{real32-laws}
+use Rattle.triangle.proofs.InOrder.{real-swaps}
+use Rattle.triangle.proofs.Kernels.{vector-passed, vector-runs, trmv-refused, trmv-done}
+use borrow.Author.Needs.{needs}
+use Rattle.triangle.proofs.real32.trmv.Statement.{statement}
+use Rattle.triangle.proofs.real32.trmv.Tie as tie
+
+check-trmv-requires : tie.Need-check-trmv-requires
+check-trmv-requires c κs = search needs
+
+passed-requires : tie.Need-passed-requires
+passed-requires c κs = search needs
+
+column-requires : tie.Need-column-requires
+column-requires c κs = vector-passed _ _ _ _ _ _ (c .before .before .check-trmv .ensures) (c .before .passed .ensures) (c .if1 .taken)
+
+multiply-requires : tie.Need-multiply-requires
+multiply-requires c κs = vector-runs _ _ _ _ _ _ (c .before .before .before .before .check-trmv .ensures) (c .before .before .before .passed .ensures) (c .before .before .if1 .taken) _ (c .before .column .ensures)
+
+same-length : tie.Need-same-length
+same-length c = search needs
+
+returns : tie.Need-returns
+returns c = trmv-done real32 (real32-laws .slab) (real-swaps binary32) _ _ _ _ _ _ _ (c .before .before .before .before .before .before .before .check-trmv .ensures) (c .before .before .before .before .before .before .passed .ensures) (c .before .before .before .before .before .if1 .taken) _ (c .before .before .before .before .column .ensures) _ (c .before .before .multiply .ensures)
+
+returns-2 : tie.Need-returns-2
+returns-2 c = trmv-refused real32 (real32-laws .slab) (real-swaps binary32) _ _ _ _ _ _ _ (c .before .before .check-trmv .ensures) (c .before .passed .ensures) (c .if1 .left)
+
+pub trmv-spec : {M : Type 1} → statement M
+trmv-spec =
+    tie.close
+    (tie.spec
+    check-trmv-requires
+    passed-requires
+    column-requires
+    multiply-requires
+    same-length
+    returns
+    returns-2)

@@ -1,0 +1,25 @@
+use borrow.Author.Needs.{needs}
+use Rattle.triangle.proofs.real64.zero_pivot.Statement.{statement}
+use Rattle.triangle.proofs.real64.zero_pivot.Tie as tie
+
+enum-told : tie.Need-enum-told
+enum-told c = search needs
+
+read-requires : tie.Need-read-requires
+read-requires c κs = search needs
+
+is-zero-requires : tie.Need-is-zero-requires
+is-zero-requires c κs = search needs
+
+enum-told-2 : tie.Need-enum-told-2
+enum-told-2 c = search needs
+
+returns : tie.Need-returns
+returns c = rw (c .before .before .enum-told .given .1) (cc)
+
+returns-2 : tie.Need-returns-2
+returns-2 c = search needs
+
+pub zero-pivot-spec : {M : Type 1} → statement M
+zero-pivot-spec =
+    tie.close (tie.spec enum-told read-requires is-zero-requires enum-told-2 returns returns-2)

@@ -1,0 +1,3 @@
+-- What the triangular engine's contracts cite, over any number kind.
+pub mod Ready
+pub mod Multiply

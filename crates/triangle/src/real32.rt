@@ -1,0 +1,515 @@
+// The triangular products and solves of f32.
+
+ghost use mathlib.Core.Bool.{cond};
+ghost use mathlib.Core.Path.{_≡_};
+ghost use Prim.Native.Nat.{_*_, _<_};
+ghost use Rattle.number.specs.Kind.{real32};
+ghost use Rattle.slab.specs.Elem.{elem, lent};
+ghost use Rattle.view.specs.Checks.{orderOf};
+ghost use Rattle.view.specs.Steps.{Accepted};
+ghost use Rattle.slab.specs.Update.{step, row, everywhere};
+ghost use Rattle.blas.specs.Matrix.{op};
+ghost use Rattle.blas.specs.Outcome.{Gives};
+ghost use Rattle.blas.specs.Substitution as substitution;
+ghost use Rattle.blas.specs.Trsm.{timesAlpha, sidedSolve};
+ghost use Rattle.blas.specs.Trsm;
+ghost use Rattle.blas.specs.Trsv;
+ghost use Rattle.blas.specs.Trmm;
+ghost use Rattle.blas.specs.Trmv;
+ghost use Rattle.blas.specs.Triangular.{triangular};
+ghost use Rattle.triangle.specs.Multiply as multiply;
+ghost use Rattle.triangle.specs.Ready.{timesIf, InSquare, InB, Sided, SidedAt, SidedRange, Pivots};
+use crate::order::goes_into;
+use crate::order::in_order;
+use crate::order::last_first;
+use crate::order::least_solved;
+use crate::order::line_of;
+use crate::order::op_coord;
+use crate::order::order_of;
+use crate::order::turn_of;
+use crate::order::unit_at;
+use crate::order::unknown_coord;
+use number::Real32;
+use slab::get32;
+use slab::put32;
+use view::Answer;
+use view::Diag;
+use view::Side;
+use view::Trans;
+use view::UpLo;
+use view::View;
+use view::check_trmm;
+use view::check_trmv;
+use view::check_trsm;
+use view::check_trsv;
+use view::cols;
+use view::column;
+use view::passed;
+use view::place;
+use view::rows;
+
+// Element (i, j) of op(A).
+fn read(t: Trans, s: &[f32], v: View, i: usize, j: usize) -> Real32
+    requires { ⌜ InSquare v (real32 .count (now s)) i j ⌝ }
+    ensures { λ r. ⌜ r .0 ≡ op real32 t (elem real32 (now (s .entry)) v) i j ⌝ }
+{
+    let at = op_coord(t, i, j);
+    get32(s, place(v, at.row, at.col))
+}
+
+// Unknown p of line l.
+fn unknown(side: Side, s: &[f32], v: View, p: usize, l: usize) -> Real32
+    requires { ⌜ InB side v (real32 .count (now s)) p l ⌝ }
+    ensures { λ r. ⌜ r .0 ≡ substitution.unknown real32 side (now (s .entry)) v p l ⌝ }
+{
+    let at = unknown_coord(side, p, l);
+    get32(s, place(v, at.row, at.col))
+}
+
+// Unknown p of line l replaced.
+fn replace(side: Side, s: &mut [f32], v: View, p: usize, l: usize, x: Real32)
+    requires { ⌜ InB side v (real32 .count (now s)) p l ⌝ }
+    ensures { λ _. ⌜ now (s .exit) ≡ real32 .put (now (s .entry)) (substitution.unknownAt side v p l) (x .0) ⌝ }
+{
+    let at = unknown_coord(side, p, l);
+    put32(s, place(v, at.row, at.col), x);
+}
+
+// What unknown p, of value x, brings into the equation of unknown q.
+fn brings(side: Side, t: Trans, a: &[f32], va: View, q: usize, p: usize, x: Real32) -> Real32
+    requires { ⌜ InSquare va (real32 .count (now a)) q p ⌝ }
+    ensures { λ r. ⌜ r .0 ≡ substitution.brings real32 side t (elem real32 (now (a .entry)) va) q p (x .0) ⌝ }
+{
+    match side {
+        Side::Left => read(t, a, va, q, p).mul(x),
+        Side::Right => x.mul(read(t, a, va, p, q)),
+    }
+}
+
+// x less what n unknowns of line l, from `from` on, bring into the equation of unknown q.
+fn reduce(
+    side: Side,
+    t: Trans,
+    a: &[f32],
+    va: View,
+    b: &[f32],
+    vb: View,
+    q: usize,
+    l: usize,
+    from: usize,
+    n: usize,
+    x: Real32,
+) -> Real32
+    requires { ⌜ SidedRange side va (real32 .count (now a)) vb (real32 .count (now b)) q l from n ⌝ }
+    ensures { λ r. ⌜ r .0 ≡ substitution.less real32 (x .0) (λ p. substitution.brings real32 side t (elem real32 (now (a .entry)) va) q p (substitution.unknown real32 side (now (b .entry)) vb p l)) from n ⌝ }
+{
+    let mut rest = x;
+    let mut i = 0;
+    while i < n {
+        let p = from + i;
+        rest = rest.sub(brings(side, t, a, va, q, p, unknown(side, b, vb, p, l)));
+        i += 1;
+    }
+    rest
+}
+
+// x divided by pivot q.
+fn by_pivot(diag: Diag, t: Trans, a: &[f32], va: View, q: usize, x: Real32) -> Real32
+    requires { ⌜ InSquare va (real32 .count (now a)) q q ⌝ }
+    ensures { λ r. ⌜ r .0 ≡ substitution.byPivot real32 diag t (elem real32 (now (a .entry)) va) q (x .0) ⌝ }
+{
+    match diag {
+        Diag::NonUnit => x.div(read(t, a, va, q, q)),
+        Diag::Unit => x,
+    }
+}
+
+fn zero_pivot(diag: Diag, a: &[f32], va: View, q: usize) -> bool
+    requires { ⌜ InSquare va (real32 .count (now a)) q q ⌝ }
+    ensures { λ r. ⌜ r ≡ substitution.zeroPivot real32 diag (elem real32 (now (a .entry)) va) q ⌝ }
+{
+    match diag {
+        Diag::NonUnit => read(Trans::NoTrans, a, va, q, q).is_zero(),
+        Diag::Unit => false,
+    }
+}
+
+// x times alpha, or as it is.
+fn times_if(times: bool, alpha: Real32, x: Real32) -> Real32
+    ensures { λ r. ⌜ r .0 ≡ timesIf real32 times (alpha .0) (x .0) ⌝ }
+{
+    if times { alpha.mul(x) } else { x }
+}
+
+// The unknown of line l that comes after k others, solved.
+fn solve_one(
+    side: Side,
+    uplo: UpLo,
+    t: Trans,
+    diag: Diag,
+    times: bool,
+    alpha: Real32,
+    a: &[f32],
+    va: View,
+    b: &mut [f32],
+    vb: View,
+    k: usize,
+    l: usize,
+)
+    requires { ⌜ SidedAt side va (real32 .count (now a)) vb (real32 .count (now b)) k l ⌝ }
+    ensures { λ _. ⌜ now (b .exit) ≡ substitution.solveOne real32 side uplo t diag (timesIf real32 times (alpha .0)) (elem real32 (now (a .entry)) va) vb k l (now (b .entry)) ⌝ }
+{
+    let last = last_first(side, uplo, t);
+    let m = order_of(side, vb);
+    let q = in_order(last, m, k);
+    let from = least_solved(last, m, k);
+    let x = times_if(times, alpha, unknown(side, b, vb, q, l));
+    let rest = reduce(side, t, a, va, b, vb, q, l, from, k, x);
+    let y = by_pivot(diag, t, a, va, q, rest);
+    replace(side, b, vb, q, l, y);
+}
+
+// Whether the pivot of the unknown that comes after k others is zero.
+fn singular_at(
+    side: Side,
+    uplo: UpLo,
+    t: Trans,
+    diag: Diag,
+    a: &[f32],
+    va: View,
+    vb: View,
+    k: usize,
+) -> bool
+    requires { ⌜ Pivots side va (real32 .count (now a)) vb k ⌝ }
+    ensures { λ r. ⌜ r ≡ substitution.zeroPivot real32 diag (elem real32 (now (a .entry)) va) (substitution.inOrder (substitution.lastFirst side uplo t) (orderOf side vb) k) ⌝ }
+{
+    let q = in_order(last_first(side, uplo, t), order_of(side, vb), k);
+    zero_pivot(diag, a, va, q)
+}
+
+// Every element in solving order solved, up to the first zero pivot.
+fn solve(
+    side: Side,
+    uplo: UpLo,
+    t: Trans,
+    diag: Diag,
+    times: bool,
+    alpha: Real32,
+    a: &[f32],
+    va: View,
+    b: &mut [f32],
+    vb: View,
+) -> Answer
+    requires { ⌜ Sided side va (real32 .count (now a)) vb (real32 .count (now b)) ⌝ }
+    ensures { λ r. ⌜ Gives real32 (substitution.substituted real32 side uplo t diag (timesIf real32 times (alpha .0)) (elem real32 (now (a .entry)) va) vb (now (b .entry))) r (now (b .exit)) ⌝ }
+{
+    let total = rows(vb) * cols(vb);
+    let mut n = 0;
+    while n < total {
+        let k = turn_of(side, vb, n);
+        let l = line_of(side, vb, n);
+        if singular_at(side, uplo, t, diag, a, va, vb, k) {
+            return Answer::Singular;
+        }
+        solve_one(side, uplo, t, diag, times, alpha, a, va, b, vb, k, l);
+        n += 1;
+    }
+    Answer::Done
+}
+
+// Element (i, j) of B times alpha.
+fn scale_one(alpha: Real32, b: &mut [f32], vb: View, i: usize, j: usize)
+    requires { ⌜ InB Side.Left vb (real32 .count (now b)) i j ⌝ }
+    ensures { λ _. ⌜ now (b .exit) ≡ step real32 vb everywhere (λ i j x. real32 .mul (alpha .0) x) i j (now (b .entry)) ⌝ }
+{
+    let x = unknown(Side::Left, b, vb, i, j);
+    replace(Side::Left, b, vb, i, j, alpha.mul(x));
+}
+
+// Row i of B times alpha.
+fn scale_row(alpha: Real32, b: &mut [f32], vb: View, i: usize)
+    requires { ⌜ Accepted vb (real32 .count (now b)) × (i < vb .rows) ⌝ }
+    ensures { λ _. ⌜ now (b .exit) ≡ row real32 vb everywhere (λ i j x. real32 .mul (alpha .0) x) i (vb .cols) (now (b .entry)) ⌝ }
+{
+    let n = cols(vb);
+    let mut j = 0;
+    while j < n {
+        scale_one(alpha, b, vb, i, j);
+        j += 1;
+    }
+}
+
+// All of B times alpha.
+fn scale(alpha: Real32, b: &mut [f32], vb: View)
+    requires { ⌜ Accepted vb (real32 .count (now b)) ⌝ }
+    ensures { λ _. ⌜ now (b .exit) ≡ timesAlpha real32 (alpha .0) vb (now (b .entry)) ⌝ }
+{
+    let m = rows(vb);
+    let mut i = 0;
+    while i < m {
+        scale_row(alpha, b, vb, i);
+        i += 1;
+    }
+}
+
+// Left multiplies by alpha where it solves, Right multiplies all of B first.
+fn sided(
+    side: Side,
+    uplo: UpLo,
+    t: Trans,
+    diag: Diag,
+    alpha: Real32,
+    a: &[f32],
+    va: View,
+    b: &mut [f32],
+    vb: View,
+) -> Answer
+    requires { ⌜ Sided side va (real32 .count (now a)) vb (real32 .count (now b)) ⌝ }
+    ensures { λ r. ⌜ Gives real32 (sidedSolve real32 side uplo t diag (alpha .0) (elem real32 (now (a .entry)) va) vb (now (b .entry))) r (now (b .exit)) ⌝ }
+{
+    match side {
+        Side::Left => solve(Side::Left, uplo, t, diag, true, alpha, a, va, b, vb),
+        Side::Right => {
+            scale(alpha, b, vb);
+            solve(Side::Right, uplo, t, diag, false, alpha, a, va, b, vb)
+        }
+    }
+}
+
+// Element (i, j) of op(A)'s triangle.
+fn coefficient(diag: Diag, t: Trans, s: &[f32], v: View, i: usize, j: usize) -> Real32
+    requires { ⌜ InSquare v (real32 .count (now s)) i j ⌝ }
+    ensures { λ r. ⌜ r .0 ≡ triangular real32 diag t (elem real32 (now (s .entry)) v) i j ⌝ }
+{
+    if unit_at(diag, i, j) {
+        Real32::ONE
+    } else {
+        read(t, s, v, i, j)
+    }
+}
+
+// What element p of a line, of value x, brings into element q of it.
+fn weighs(
+    side: Side,
+    diag: Diag,
+    t: Trans,
+    a: &[f32],
+    va: View,
+    q: usize,
+    p: usize,
+    x: Real32,
+) -> Real32
+    requires { ⌜ InSquare va (real32 .count (now a)) q p ⌝ }
+    ensures { λ r. ⌜ r .0 ≡ multiply.weighs real32 side diag t (elem real32 (now (a .entry)) va) q p (x .0) ⌝ }
+{
+    match side {
+        Side::Left => coefficient(diag, t, a, va, q, p).mul(x),
+        Side::Right => x.mul(coefficient(diag, t, a, va, p, q)),
+    }
+}
+
+// The sum with what element p of line l brings into element q, where it goes into it.
+fn add_term(
+    side: Side,
+    uplo: UpLo,
+    t: Trans,
+    diag: Diag,
+    a: &[f32],
+    va: View,
+    b: &[f32],
+    vb: View,
+    q: usize,
+    l: usize,
+    p: usize,
+    sum: Real32,
+) -> Real32
+    requires { ⌜ SidedRange side va (real32 .count (now a)) vb (real32 .count (now b)) q l p 1 ⌝ }
+    ensures { λ r. ⌜ r .0 ≡ cond (multiply.goesInto side uplo t q p) (real32 .add (sum .0) (multiply.weighs real32 side diag t (elem real32 (now (a .entry)) va) q p (substitution.unknown real32 side (now (b .entry)) vb p l))) (sum .0) ⌝ }
+{
+    if goes_into(side, uplo, t, q, p) {
+        sum.add(weighs(side, diag, t, a, va, q, p, unknown(side, b, vb, p, l)))
+    } else {
+        sum
+    }
+}
+
+// Element q of line l of the product, with n elements to a line.
+fn line_dot(
+    side: Side,
+    uplo: UpLo,
+    t: Trans,
+    diag: Diag,
+    a: &[f32],
+    va: View,
+    b: &[f32],
+    vb: View,
+    n: usize,
+    q: usize,
+    l: usize,
+) -> Real32
+    requires { ⌜ SidedRange side va (real32 .count (now a)) vb (real32 .count (now b)) q l 0 n ⌝ }
+    ensures { λ r. ⌜ r .0 ≡ multiply.lineDot real32 side uplo t diag (elem real32 (now (a .entry)) va) vb n (now (b .entry)) q l ⌝ }
+{
+    let mut sum = Real32::ZERO;
+    let mut p = 0;
+    while p < n {
+        sum = add_term(side, uplo, t, diag, a, va, b, vb, q, l, p, sum);
+        p += 1;
+    }
+    sum
+}
+
+// The element of line l that comes after k others, multiplied.
+fn multiply_one(
+    side: Side,
+    uplo: UpLo,
+    t: Trans,
+    diag: Diag,
+    times: bool,
+    alpha: Real32,
+    a: &[f32],
+    va: View,
+    b: &mut [f32],
+    vb: View,
+    k: usize,
+    l: usize,
+)
+    requires { ⌜ SidedAt side va (real32 .count (now a)) vb (real32 .count (now b)) k l ⌝ }
+    ensures { λ _. ⌜ now (b .exit) ≡ multiply.multiplyOne real32 side uplo t diag (timesIf real32 times (alpha .0)) (elem real32 (now (a .entry)) va) vb k l (now (b .entry)) ⌝ }
+{
+    let last = last_first(side, uplo, t);
+    let m = order_of(side, vb);
+    let q = in_order(!last, m, k);
+    let sum = line_dot(side, uplo, t, diag, a, va, b, vb, m, q, l);
+    replace(side, b, vb, q, l, times_if(times, alpha, sum));
+}
+
+// Every element multiplied, in the order that reads no written element.
+fn multiply(
+    side: Side,
+    uplo: UpLo,
+    t: Trans,
+    diag: Diag,
+    times: bool,
+    alpha: Real32,
+    a: &[f32],
+    va: View,
+    b: &mut [f32],
+    vb: View,
+)
+    requires { ⌜ Sided side va (real32 .count (now a)) vb (real32 .count (now b)) ⌝ }
+    ensures { λ _. ⌜ now (b .exit) ≡ multiply.multiplied real32 side uplo t diag (timesIf real32 times (alpha .0)) (elem real32 (now (a .entry)) va) vb (vb .rows * vb .cols) (now (b .entry)) ⌝ }
+{
+    let total = rows(vb) * cols(vb);
+    let mut n = 0;
+    while n < total {
+        let k = turn_of(side, vb, n);
+        let l = line_of(side, vb, n);
+        multiply_one(side, uplo, t, diag, times, alpha, a, va, b, vb, k, l);
+        n += 1;
+    }
+}
+
+// x ← op(A) x, A triangular
+pub fn trmv(
+    uplo: UpLo,
+    trans: Trans,
+    diag: Diag,
+    a: &[f32],
+    va: View,
+    x: &mut [f32],
+    vx: View,
+) -> Answer
+    ensures { λ r. ⌜ Gives real32 (Trmv.trmv real32 uplo trans diag (lent real32 (now (a .entry)) va) (lent real32 (now (x .entry)) vx)) r (now (x .exit)) ⌝ }
+{
+    let answer = check_trmv(va, a.len(), vx, x.len());
+    if passed(answer) {
+        let v = column(vx);
+        multiply(
+            Side::Left,
+            uplo,
+            trans,
+            diag,
+            false,
+            Real32::ONE,
+            a,
+            va,
+            x,
+            v,
+        );
+    }
+    answer
+}
+
+// B ← alpha op(A) B or alpha B op(A), A triangular
+pub fn trmm(
+    side: Side,
+    uplo: UpLo,
+    trans: Trans,
+    diag: Diag,
+    alpha: Real32,
+    a: &[f32],
+    va: View,
+    b: &mut [f32],
+    vb: View,
+) -> Answer
+    ensures { λ r. ⌜ Gives real32 (Trmm.trmm real32 side uplo trans diag (alpha .0) (lent real32 (now (a .entry)) va) (lent real32 (now (b .entry)) vb)) r (now (b .exit)) ⌝ }
+{
+    let answer = check_trmm(side, va, a.len(), vb, b.len());
+    if passed(answer) {
+        multiply(side, uplo, trans, diag, true, alpha, a, va, b, vb);
+    }
+    answer
+}
+
+// op(A) x = b solved, x holding b, A triangular
+pub fn trsv(
+    uplo: UpLo,
+    trans: Trans,
+    diag: Diag,
+    a: &[f32],
+    va: View,
+    x: &mut [f32],
+    vx: View,
+) -> Answer
+    ensures { λ r. ⌜ Gives real32 (Trsv.trsv real32 uplo trans diag (lent real32 (now (a .entry)) va) (lent real32 (now (x .entry)) vx)) r (now (x .exit)) ⌝ }
+{
+    let answer = check_trsv(va, a.len(), vx, x.len());
+    if passed(answer) {
+        let v = column(vx);
+        return solve(
+            Side::Left,
+            uplo,
+            trans,
+            diag,
+            false,
+            Real32::ONE,
+            a,
+            va,
+            x,
+            v,
+        );
+    }
+    answer
+}
+
+// op(A) X = alpha B or X op(A) = alpha B solved in B's place, A triangular
+pub fn trsm(
+    side: Side,
+    uplo: UpLo,
+    trans: Trans,
+    diag: Diag,
+    alpha: Real32,
+    a: &[f32],
+    va: View,
+    b: &mut [f32],
+    vb: View,
+) -> Answer
+    ensures { λ r. ⌜ Gives real32 (Trsm.trsm real32 side uplo trans diag (alpha .0) (lent real32 (now (a .entry)) va) (lent real32 (now (b .entry)) vb)) r (now (b .exit)) ⌝ }
+{
+    let answer = check_trsm(side, va, a.len(), vb, b.len());
+    if passed(answer) {
+        return sided(side, uplo, trans, diag, alpha, a, va, b, vb);
+    }
+    answer
+}
