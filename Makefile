@@ -1,10 +1,25 @@
-# make demo: the worked numbers. make test: the gate. The rest builds the archive for C and compares with the Rust (oracle/).
-.PHONY: demo test archive c-test oracle-test lists counts compare bench need-rt need-cargo need-cc
+# make demo: the two-point path. make test: the gate. The rest builds the archive, tests its bindings and compares with the Rust (oracle/).
+.PHONY: demo numbers test archive c-test rust-test oracle-test lists counts compare bench need-rt need-cargo need-cc
 
-demo: need-rt
+# From C and from Rust, through the proved archive.
+demo: need-rt need-cc need-cargo
+	@mkdir -p target
+	@echo "Proving the kernels and building libcapi.a (about five minutes from nothing, seconds after that) .."
+	@rt staticlib capi > target/demo.log 2>&1 || { tail -n 20 target/demo.log; echo "make demo: not proved; target/demo.log has the whole report" >&2; exit 1; }
+	@$(CC) -std=c11 -O1 -Wall -Wextra -Iinclude -o target/two_point demo/two_point.c target/staticlib/libcapi.a
+	@echo "From C (demo/two_point.c)"
+	@echo
+	@target/two_point
+	@echo
+	@echo "From Rust (bindings/rust/examples/two_point.rs)"
+	@echo
+	@cd bindings/rust && cargo run --offline --quiet --example two_point
+
+# The worked numbers, printed.
+numbers: need-rt
 	@mkdir -p target
 	@echo "Proving the number kinds and building the program (a minute or two from nothing) .."
-	@rt check worked_examples > target/demo.log 2>&1 || { tail -n 20 target/demo.log; echo "make demo: not proved; target/demo.log has the whole report" >&2; exit 1; }
+	@rt check worked_examples > target/numbers.log 2>&1 || { tail -n 20 target/numbers.log; echo "make numbers: not proved; target/numbers.log has the whole report" >&2; exit 1; }
 	@target/bin/worked_examples
 
 # rt ci comes last: its last line, 'N passed, M failed', is the verdict.
@@ -19,6 +34,9 @@ archive: need-rt
 c-test: archive need-cc
 	$(CC) -std=c11 -O1 -Wall -Wextra -Iinclude -o target/c-test tests/c/products.c target/staticlib/libcapi.a -lm
 	target/c-test
+
+rust-test: archive need-cargo
+	cd bindings/rust && cargo test --offline --quiet
 
 oracle-test: need-cargo need-cc
 	$(MAKE) -C oracle test
