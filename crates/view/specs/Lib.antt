@@ -10,6 +10,7 @@ pub mod Steps
 pub mod AnyLaws
 pub mod Signs
 pub mod PlaceLaws
+pub mod TransposeLaws
 pub mod OverlapLaws
 pub mod VectorLaws
 pub mod JudgeLaws

@@ -10,3 +10,7 @@ place v r c = pos (v .start) +ℤ pos r *ℤ v .rs +ℤ pos c *ℤ v .cs
 -- the place as an index of the slab: for a view that fits its slab, `place v r c` is `pos (index v r c)`
 unfoldable pub index : View → ℕ → ℕ → ℕ
 index v r c = natAbs (place v r c)
+
+-- the same elements with rows and columns exchanged
+abbrev pub transposedOf : View → View
+transposedOf v = record { start = v .start; rows = v .cols; cols = v .rows; rs = v .cs; cs = v .rs }

@@ -5,7 +5,7 @@ ghost use Prim.Native.Nat.{_<_, _^_};
 ghost use lib.IntN.{pos, _*ℤ_};
 ghost use mir.Syntax.{w64};
 ghost use mir.Val.{SFits};
-ghost use Rattle.view.specs.Place.{index};
+ghost use Rattle.view.specs.Place.{index, transposedOf};
 ghost use Rattle.view.specs.Refusals.{isVector, vecLength};
 ghost use Rattle.view.specs.Vector.{vecCoord, columnOf};
 ghost use Rattle.view.specs.Triangle.{inTriangle};
@@ -141,6 +141,19 @@ pub fn place(v: View, r: usize, c: usize) -> usize
     ensures { λ p. ⌜ p ≡ index v r c ⌝ }
 {
     (v.start as i64 + steps(r, v.rs) + steps(c, v.cs)) as usize
+}
+
+// The same elements with rows and columns exchanged.
+pub fn transposed(v: View) -> View
+    ensures { λ r. ⌜ r ≡ transposedOf v ⌝ }
+{
+    View {
+        start: v.start,
+        rows: v.cols,
+        cols: v.rows,
+        rs: v.cs,
+        cs: v.rs,
+    }
 }
 
 // Where element k of a vector stands.
