@@ -11,6 +11,7 @@ use Rattle.slab.specs.Elem.{Lent}
 use Rattle.slab.specs.Update.{Mask, everywhere}
 use Rattle.blas.specs.Matrix.{Matrix, matrix, vector}
 use Rattle.theorems.specs.Exactness.{Wholes, Whole, WholeFactor, Shows, ShowsVector, largestPart, largestScalarPart}
+use Rattle.theorems.proofs.Rings.{Ring}
 use Rattle.theorems.proofs.ExactSums.{Room, WholeLaws, Sized, SizedFactor}
 use Rattle.theorems.proofs.ExactReadings.{SizedMatrix}
 
@@ -18,6 +19,7 @@ pub record Basis (K Z : Kind) : Type 0 where
   pub laws : Laws K
   pub exact : Exact K Z
   pub whole : WholeLaws Z
+  pub ring : Ring Z
   -- the magnitude of a whole number's largest part; how many parts, each of at most that, make up its size
   pub magnitude : Z .Elem → ℕ
   pub factorMagnitude : Z .Factor → ℕ

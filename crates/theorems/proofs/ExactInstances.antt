@@ -1,4 +1,4 @@
--- The products of f64 and of complex are exact on whole numbers of document 01's range.
+-- The products and rank updates of f64 and of complex are exact on whole numbers of document 01's range.
 use Prim.Native.Nat.{ℕ, suc, _*_, _^_}
 use mathlib.Core.Bool.{true, false≢true, and-eq-true-iff}
 use mathlib.Core.Path.{_≡_, ap, _∙_}
@@ -12,9 +12,12 @@ use Rattle.number.proofs.Instances.{real64-laws, complex-laws, real64-exact, co
 use Rattle.view.specs.Refusals.{limit}
 use Rattle.theorems.specs.Exactness.{largestPart, largestScalarPart, realWholes, complexWholes}
 use Rattle.theorems.specs.ExactProducts.{ProductsExact}
+use Rattle.theorems.specs.ExactRank.{RankExact}
+use Rattle.theorems.proofs.IntegerRings.{integers-ring, gaussian-ring}
 use Rattle.theorems.proofs.ExactSums.{Room, room-less, WholeLaws}
 use Rattle.theorems.proofs.ExactBasis.{Basis}
 use Rattle.theorems.proofs.ExactProducts.{products-exact}
+use Rattle.theorems.proofs.ExactRank.{rank-exact}
 
 -- ---- products with zero and one
 
@@ -80,6 +83,7 @@ real64-basis =
       laws = real64-laws;
       exact = real64-exact;
       whole = integer-laws;
+      ring = integers-ring;
       magnitude = natAbs;
       factorMagnitude = natAbs;
       parts = 1;
@@ -94,6 +98,7 @@ complex-basis =
       laws = complex-laws;
       exact = complex-exact;
       whole = gaussian-laws;
+      ring = gaussian-ring;
       magnitude = complexWholes .magnitude;
       factorMagnitude = natAbs;
       parts = 2;
@@ -107,3 +112,9 @@ real64-products = products-exact real64-basis
 
 pub complex-products : ProductsExact complexWholes
 complex-products = products-exact complex-basis
+
+pub real64-rank : RankExact realWholes
+real64-rank = rank-exact real64-basis
+
+pub complex-rank : RankExact complexWholes
+complex-rank = rank-exact complex-basis

@@ -7,7 +7,7 @@ use native.Mathlib.Omega.{arith}
 use Rattle.number.specs.Kind.{Kind, Same, SameFactor}
 use Rattle.number.specs.Scaling.{scaled, scaledReal}
 use Rattle.number.specs.Laws.{Exact}
-use Rattle.blas.specs.Matrix.{sum}
+use Rattle.blas.specs.Matrix.{sum, pairSum}
 
 -- s (m + n m²) is at most the bound: with elements of size m and scalars of size s, no intermediate result of n products passes it
 pub record Room (bound n m s : ℕ) : Type 0 where
@@ -69,6 +69,21 @@ module _ {K Z : Kind} (E : Exact K Z) where
   sum-exact (suc n) m f g t h =
       wider (omega arith)
       (add-sized (n * m) m (sum K n f) (f n) (sum Z n g) (g n) (sum-exact n m f g (λ p l. t p (omega arith)) (omega arith)) (t n (omega arith)) (omega arith))
+
+  -- two terms an index
+  pub pair-exact : (n m : ℕ) (f f' : ℕ → K .Elem) (g g' : ℕ → Z .Elem) → ((p : ℕ) → p < n → Sized m (f p) (g p)) → ((p : ℕ) → p < n → Sized m (f' p) (g' p))
+      → 2 * n * m ≤ E .bound → Sized (2 * n * m) (pairSum K n f f') (pairSum Z n g g')
+  unfolding pairSum
+  pair-exact zero m f f' g g' t t' h = record { same = E .zero-exact; size = omega (arith, E .size-zero) }
+  pair-exact (suc n) m f f' g g' t t' h =
+      let one =
+      add-sized (2 * n * m) m (pairSum K n f f') (f n) (pairSum Z n g g') (g n)
+      (pair-exact n m f f' g g' (λ p l. t p (omega arith)) (λ p l. t' p (omega arith)) (omega arith))
+      (t n (omega arith))
+      (omega arith)
+      in
+      wider (omega arith)
+      (add-sized (2 * n * m + m) m (K .add (pairSum K n f f') (f n)) (f' n) (Z .add (pairSum Z n g g') (g n)) (g' n) one (t' n (omega arith)) (omega arith))
 
   -- n products of elements of size m
   pub dot-exact : (n m : ℕ) (f f' : ℕ → K .Elem) (g g' : ℕ → Z .Elem) → ((p : ℕ) → p < n → Sized m (f p) (g p)) → ((p : ℕ) → p < n → Sized m (f' p) (g' p))

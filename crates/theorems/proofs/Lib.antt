@@ -2,12 +2,15 @@
 -- Exact*: exactness on whole numbers; ExactInstances has the theorems for f64 and complex. Agree*: what a routine can see of a matrix;
 -- AgreeKinds has the theorems for the three kinds.
 pub mod Table
+pub mod Rings
+pub mod IntegerRings
 pub mod ExactSums
 pub mod ExactReadings
 pub mod ExactTargets
 pub mod ExactBasis
 pub mod ExactEngine
 pub mod ExactProducts
+pub mod ExactRank
 pub mod ExactInstances
 pub mod ExactWorked
 pub mod AgreeSums
