@@ -26,6 +26,7 @@ pub record Basis (K Z : Kind) : Type 0 where
   pub parts : ℕ
   pub size-le : (z : Z .Elem) → exact .size z ≤ parts * magnitude z
   pub factor-size-le : (v : Z .Factor) → exact .sizeFactor v ≤ parts * factorMagnitude v
+  pub size-one : exact .size (Z .one) ≤ parts * largestPart
   -- the range of document 01 leaves room for every shape, with two products for each index
   pub room : (n : ℕ) → n ≤ 2 * limit → Room (exact .bound) n (parts * largestPart) (parts * largestScalarPart)
 

@@ -23,7 +23,7 @@ use Rattle.blas.specs.Matrix.{Matrix, matrix, op, symmetric, hermitian, dot, ac
 use Rattle.view.specs.Triangle.{inTriangle}
 use Rattle.blas.specs.Outcome.{outcome}
 use Rattle.theorems.specs.Exactness.{Scalar, RealScalar, Shows, largestScalarPart}
-use Rattle.theorems.proofs.ExactSums.{Room, room-old, room-product, mul-sized, scale-sized, scaled-sized, scaled-real-sized, accumulate-exact}
+use Rattle.theorems.proofs.ExactSums.{Room, room-old, room-sum, room-product, mul-sized, scale-sized, scaled-sized, scaled-real-sized, accumulate-exact}
 use Rattle.theorems.proofs.ExactReadings.{SizedMatrix, op-sized, symmetric-sized, hermitian-sized, dot-sized}
 use Rattle.theorems.proofs.ExactBasis.{Basis, wholes, elementSize, scalarSize, whole-sized, factor-sized, shows-sized}
 use Rattle.theorems.proofs.ExactTargets.{outcome-same}
@@ -74,6 +74,10 @@ module _ {K Z : Kind} (B : Basis K Z) where
       scaled-real-sized (B .exact) (B .whole) (scalarSize B) (elementSize B) scaled-fits (x i j) (z i j) beta zbeta
       (factor-sized B largestScalarPart beta zbeta h)
       (λ e. old e i j p q u)
+
+  -- one product of two elements
+  pub product-fits : elementSize B * elementSize B ≤ B .exact .bound
+  product-fits = omega (arith, room-sum (B .exact .bound) 1 (elementSize B) (scalarSize B) (B .room 1 (lit≤ tt)))
 
   -- ---- the engine: n products times a scalar, added to the scaled target
 

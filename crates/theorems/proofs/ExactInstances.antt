@@ -1,9 +1,10 @@
--- The products and rank updates of f64 and of complex are exact on whole numbers of document 01's range.
+-- The products, rank updates and triangular products of f64 and of complex are exact on whole numbers of document 01's range.
 use Prim.Native.Nat.{ℕ, suc, _*_, _^_}
 use mathlib.Core.Bool.{true, false≢true, and-eq-true-iff}
 use mathlib.Core.Path.{_≡_, ap, _∙_}
 use native.Mathlib.Nat.{one-mul, le-max-left, le-max-right}
 use native.Mathlib.Omega.{arith}
+use lib.Dec.{lit≤}
 use lib.IntN.{ℤ, pos, negsuc, negℤ, natAbs, _*ℤ_, _+ℤ_, _-ℤ_, zero-*ℤ, +ℤ-idr}
 use borrow.Author.Tests.{eqb-true}
 use Rattle.number.specs.Kind.{real64, complex}
@@ -13,11 +14,13 @@ use Rattle.view.specs.Refusals.{limit}
 use Rattle.theorems.specs.Exactness.{largestPart, largestScalarPart, realWholes, complexWholes}
 use Rattle.theorems.specs.ExactProducts.{ProductsExact}
 use Rattle.theorems.specs.ExactRank.{RankExact}
+use Rattle.theorems.specs.ExactTriangles.{TrianglesExact}
 use Rattle.theorems.proofs.IntegerRings.{integers-ring, gaussian-ring}
 use Rattle.theorems.proofs.ExactSums.{Room, room-less, WholeLaws}
 use Rattle.theorems.proofs.ExactBasis.{Basis}
 use Rattle.theorems.proofs.ExactProducts.{products-exact}
 use Rattle.theorems.proofs.ExactRank.{rank-exact}
+use Rattle.theorems.proofs.ExactTriangles.{triangles-exact}
 
 -- ---- products with zero and one
 
@@ -89,6 +92,7 @@ real64-basis =
       parts = 1;
       size-le = λ z. omega arith;
       factor-size-le = λ v. omega arith;
+      size-one = lit≤ tt;
       room = λ n h. room-less (2 ^ 53) (2 * limit) n _ _ h real-room;
     }
 
@@ -104,6 +108,7 @@ complex-basis =
       parts = 2;
       size-le = λ z. omega (arith, le-max-left (natAbs (z .re)) (natAbs (z .im)), le-max-right (natAbs (z .re)) (natAbs (z .im)));
       factor-size-le = λ v. omega arith;
+      size-one = lit≤ tt;
       room = λ n h. room-less (2 ^ 53) (2 * limit) n _ _ h complex-room;
     }
 
@@ -118,3 +123,9 @@ real64-rank = rank-exact real64-basis
 
 pub complex-rank : RankExact complexWholes
 complex-rank = rank-exact complex-basis
+
+pub real64-triangles : TrianglesExact realWholes
+real64-triangles = triangles-exact real64-basis
+
+pub complex-triangles : TrianglesExact complexWholes
+complex-triangles = triangles-exact complex-basis

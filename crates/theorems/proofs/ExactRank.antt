@@ -3,15 +3,13 @@
 use Prim.Native.Nat.{ℕ, _+_, _*_, _≤_, _<_}
 use mathlib.Core.Bool.{true}
 use mathlib.Core.Path.{_≡_, refl, sym, ap, subst, _∙_}
-use native.Mathlib.Nat.{le-trans, mul-le-mul-right}
+use native.Mathlib.Nat.{mul-le-mul-right}
 use native.Mathlib.Omega.{arith}
 use lib.Dec.{lit≤}
 use Rattle.number.specs.Kind.{Kind, Same}
 use Rattle.number.specs.Scaling.{scaled, scaledReal}
 use Rattle.view.specs.declared.View.{View}
 use Rattle.view.specs.declared.Trans.{Trans}
-use Rattle.view.specs.declared.UpLo.{UpLo}
-use Rattle.view.specs.Refusals.{limit}
 use Rattle.view.specs.Checks.{opRows, opCols, syr2kShape, herCheck, her2Check, syr2kCheck, her2kCheck}
 use Rattle.view.specs.JudgeLaws.{Vector, judge-passed, trmv-sizes, hemv-sizes, syr2k-sizes}
 use Rattle.view.specs.Steps.{Accepted}
@@ -22,7 +20,7 @@ use Rattle.blas.specs.Matrix.{Matrix, matrix, vector, op, pairSum}
 use Rattle.blas.specs.Outcome.{Outcome}
 use Rattle.blas.specs.Syrk.{syrkLeft, syrkRight}
 use Rattle.blas.specs.Herk.{herkLeft, herkRight}
-use Rattle.blas.specs.Her.{her, herChange}
+use Rattle.blas.specs.Her.{her}
 use Rattle.blas.specs.Her2.{her2, her2Change}
 use Rattle.blas.specs.Syr2k.{syr2k, syr2kProduct}
 use Rattle.blas.specs.Her2k.{her2k, her2kProduct}
@@ -33,7 +31,7 @@ use Rattle.theorems.proofs.ExactSums.{room-product, room-sum, Sized, wi
 use Rattle.theorems.proofs.ExactReadings.{conj-sized}
 use Rattle.theorems.proofs.ExactTargets.{answer-done, outcome-same}
 use Rattle.theorems.proofs.ExactBasis.{Basis, wholes, elementSize, scalarSize, whole-sized, factor-sized, shows-sized, vector-sized}
-use Rattle.theorems.proofs.ExactEngine.{Few, few-op-cols, Range, Scaled, scaled-fits, room, Sums, Weighed, by-beta, by-real-beta, by-alpha, leaves, op-range, fit}
+use Rattle.theorems.proofs.ExactEngine.{Few, Range, Scaled, scaled-fits, product-fits, room, Sums, Weighed, by-beta, by-real-beta, by-alpha, leaves, op-range, fit}
 use Rattle.theorems.proofs.AgreeRoutines.{op-same, op-le}
 use Rattle.theorems.proofs.ExactProducts.{Turned, syrk-turned, herk-turned}
 
@@ -81,9 +79,6 @@ module _ {K Z : Kind} (B : Basis K Z) where
   -- (alpha a) b
   abbrev weighedSize : ℕ
   weighedSize = scalarSize B * (elementSize B * elementSize B)
-
-  one-fits : elementSize B * elementSize B ≤ B .exact .bound
-  one-fits = omega (arith, room-sum _ 1 _ _ (room B 1 (lit≤ tt)))
 
   weighed-fits : scalarSize B * elementSize B * elementSize B ≤ B .exact .bound
   weighed-fits = omega (arith, room-product _ 1 _ _ (room B 1 (lit≤ tt)))
@@ -196,8 +191,8 @@ module _ {K Z : Kind} (B : Basis K Z) where
           (λ i j. pairSum Z terms (λ p. Z .mul (op Z tl za i p) (op Z tr zb p j)) (λ p. Z .mul (op Z tl zb i p) (op Z tr za p j)))
       pair-sums i j p q u =
           pair-exact (B .exact) terms (elementSize B * elementSize B) _ _ _ _
-          (λ k l. mul-sized (B .exact) (elementSize B) (elementSize B) _ _ _ _ (on-left a za ha refl refl i k p l refl) (on-right b zb hb (sizes .0) (sizes .1) k j l q refl) one-fits)
-          (λ k l. mul-sized (B .exact) (elementSize B) (elementSize B) _ _ _ _ (on-left b zb hb (sizes .0) (sizes .1) i k p l refl) (on-right a za ha refl refl k j l q refl) one-fits)
+          (λ k l. mul-sized (B .exact) (elementSize B) (elementSize B) _ _ _ _ (on-left a za ha refl refl i k p l refl) (on-right b zb hb (sizes .0) (sizes .1) k j l q refl) (product-fits B))
+          (λ k l. mul-sized (B .exact) (elementSize B) (elementSize B) _ _ _ _ (on-left b zb hb (sizes .0) (sizes .1) i k p l refl) (on-right a za ha refl refl k j l q refl) (product-fits B))
           (room-sum _ (2 * terms) _ _ (room B (2 * terms) few))
 
       weighed-pairs : (alpha : K .Elem) (zalpha : Z .Elem) → Scalar (wholes B) alpha zalpha → Weighed B (2 * terms) few (c .rows) (c .cols)

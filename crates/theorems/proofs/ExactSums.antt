@@ -7,7 +7,7 @@ use native.Mathlib.Omega.{arith}
 use Rattle.number.specs.Kind.{Kind, Same, SameFactor}
 use Rattle.number.specs.Scaling.{scaled, scaledReal}
 use Rattle.number.specs.Laws.{Exact}
-use Rattle.blas.specs.Matrix.{sum, pairSum}
+use Rattle.blas.specs.Matrix.{sum, sumOver, pairSum}
 
 -- s (m + n m²) is at most the bound: with elements of size m and scalars of size s, no intermediate result of n products passes it
 pub record Room (bound n m s : ℕ) : Type 0 where
@@ -69,6 +69,18 @@ module _ {K Z : Kind} (E : Exact K Z) where
   sum-exact (suc n) m f g t h =
       wider (omega arith)
       (add-sized (n * m) m (sum K n f) (f n) (sum Z n g) (g n) (sum-exact n m f g (λ p l. t p (omega arith)) (omega arith)) (t n (omega arith)) (omega arith))
+
+  -- over admitted indices alone
+  pub over-exact : (n m : ℕ) (admits : ℕ → Bool) (f : ℕ → K .Elem) (g : ℕ → Z .Elem) → ((p : ℕ) → p < n → admits p ≡ true → Sized m (f p) (g p)) → n * m ≤ E .bound
+      → Sized (n * m) (sumOver K n admits f) (sumOver Z n admits g)
+  unfolding sumOver
+  over-exact zero m admits f g t h = record { same = E .zero-exact; size = omega (arith, E .size-zero) }
+  over-exact (suc n) m admits f g t h = go (admits n) (t n (omega arith)) (over-exact n m admits f g (λ p l. t p (omega arith)) (omega arith))
+    where
+      go : (b : Bool) → (b ≡ true → Sized m (f n) (g n)) → Sized (n * m) (sumOver K n admits f) (sumOver Z n admits g)
+          → Sized (suc n * m) (cond b (K .add (sumOver K n admits f) (f n)) (sumOver K n admits f)) (cond b (Z .add (sumOver Z n admits g) (g n)) (sumOver Z n admits g))
+      go true e s = wider (omega arith) (add-sized (n * m) m (sumOver K n admits f) (f n) (sumOver Z n admits g) (g n) s (e refl) (omega arith))
+      go false e s = wider (omega arith) s
 
   -- two terms an index
   pub pair-exact : (n m : ℕ) (f f' : ℕ → K .Elem) (g g' : ℕ → Z .Elem) → ((p : ℕ) → p < n → Sized m (f p) (g p)) → ((p : ℕ) → p < n → Sized m (f' p) (g' p))

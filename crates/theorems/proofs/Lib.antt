@@ -11,6 +11,7 @@ pub mod ExactBasis
 pub mod ExactEngine
 pub mod ExactProducts
 pub mod ExactRank
+pub mod ExactTriangles
 pub mod ExactInstances
 pub mod ExactWorked
 pub mod AgreeSums

@@ -1,8 +1,9 @@
 -- The laws that whole numbers have and floats lack: those of a ring with a conjugate. By them a sum may be taken apart and put together again.
 use Prim.Native.Nat.{ℕ, zero, suc}
+use mathlib.Core.Bool.{Bool, true, false, cond}
 use mathlib.Core.Path.{_≡_, refl, sym, ap, _∙_}
 use Rattle.number.specs.Kind.{Kind}
-use Rattle.blas.specs.Matrix.{sum, pairSum}
+use Rattle.blas.specs.Matrix.{sum, sumOver, pairSum}
 
 pub record Ring (Z : Kind) : Type 0 where
   pub add-zero : (a : Z .Elem) → Z .add a (Z .zero) ≡ a
@@ -44,3 +45,15 @@ module _ {Z : Kind} (R : Ring Z) where
   pub weight-out : (n : ℕ) (a : Z .Elem) (f g : ℕ → Z .Elem)
       → sum Z n (λ p. Z .mul (Z .mul a (f p)) (g p)) ≡ Z .mul a (sum Z n (λ p. Z .mul (f p) (g p)))
   weight-out n a f g = (λ i. sum Z n (λ p. R .mul-assoc a (f p) (g p) i)) ∙ factor-out n a (λ p. Z .mul (f p) (g p))
+
+  -- a skipped term counts as ZERO
+  pub skipped : (n : ℕ) (admits : ℕ → Bool) (f g : ℕ → Z .Elem) → ((p : ℕ) → admits p ≡ true → f p ≡ g p) → ((p : ℕ) → admits p ≡ false → g p ≡ Z .zero)
+      → sumOver Z n admits f ≡ sum Z n g
+  unfolding sumOver sum
+  skipped zero admits f g h h' = refl
+  skipped (suc n) admits f g h h' = go (admits n) (h n) (h' n) (skipped n admits f g h h')
+    where
+      go : (b : Bool) → (b ≡ true → f n ≡ g n) → (b ≡ false → g n ≡ Z .zero) → sumOver Z n admits f ≡ sum Z n g
+          → cond b (Z .add (sumOver Z n admits f) (f n)) (sumOver Z n admits f) ≡ Z .add (sum Z n g) (g n)
+      go true e e' same = λ i. Z .add (same i) (e refl i)
+      go false e e' same = same ∙ sym (ap (Z .add (sum Z n g)) (e' refl) ∙ R .add-zero (sum Z n g))
