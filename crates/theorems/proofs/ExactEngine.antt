@@ -64,14 +64,14 @@ module _ {K Z : Kind} (B : Basis K Z) where
   pub by-beta : (mask : Mask) (rows cols : ℕ) (x : Matrix K) (z : Matrix Z) (beta : K .Elem) (zbeta : Z .Elem) → Scalar (wholes B) beta zbeta
       → (Z .isZero zbeta ≡ false → Range mask rows cols x z) → Scaled mask rows cols (λ i j. scaled K beta (x i j)) (λ i j. Z .mul zbeta (z i j))
   by-beta mask rows cols x z beta zbeta h old i j p q u =
-      scaled-sized (B .exact) (B .whole) (scalarSize B) (elementSize B) scaled-fits (x i j) (z i j) beta zbeta
+      scaled-sized (B .exact) (B .ring) (scalarSize B) (elementSize B) scaled-fits (x i j) (z i j) beta zbeta
       (whole-sized B largestScalarPart beta zbeta h)
       (λ e. old e i j p q u)
 
   pub by-real-beta : (mask : Mask) (rows cols : ℕ) (x : Matrix K) (z : Matrix Z) (beta : K .Factor) (zbeta : Z .Factor) → RealScalar (wholes B) beta zbeta
       → (Z .isZeroFactor zbeta ≡ false → Range mask rows cols x z) → Scaled mask rows cols (λ i j. scaledReal K beta (x i j)) (λ i j. Z .scaleReal zbeta (z i j))
   by-real-beta mask rows cols x z beta zbeta h old i j p q u =
-      scaled-real-sized (B .exact) (B .whole) (scalarSize B) (elementSize B) scaled-fits (x i j) (z i j) beta zbeta
+      scaled-real-sized (B .exact) (B .ring) (scalarSize B) (elementSize B) scaled-fits (x i j) (z i j) beta zbeta
       (factor-sized B largestScalarPart beta zbeta h)
       (λ e. old e i j p q u)
 

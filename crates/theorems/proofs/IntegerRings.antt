@@ -1,7 +1,9 @@
 -- The integers and the Gaussian integers are rings.
+use mathlib.Core.Bool.{true, false≢true, and-eq-true-iff, _&&_}
 use mathlib.Core.Path.{_≡_, refl, sym, ap, subst, _∙_}
-use lib.IntN.{ℤ, pos, sucℤ, predℤ, negℤ, _+ℤ_, _-ℤ_, _*ℤ_, sucℤ-+ℤ, predℤ-+ℤ, +ℤ-idl, +ℤ-idr, +ℤ-one, -ℤ-one, +ℤ-assoc, +ℤ-comm, +ℤ-invl, +ℤ-negℤ-cancel, negℤ-+ℤ, ℤ-ind, zero-*ℤ, *ℤ-zero, sucℤ-*ℤ, predℤ-*ℤ, *ℤ-comm}
-use Rattle.number.specs.Integers.{Gaussian, integers, gaussian}
+use lib.IntN.{ℤ, one, pos, negsuc, sucℤ, predℤ, negℤ, _+ℤ_, _-ℤ_, _*ℤ_, sucℤ-+ℤ, predℤ-+ℤ, +ℤ-idl, +ℤ-idr, +ℤ-one, -ℤ-one, +ℤ-assoc, +ℤ-comm, +ℤ-invl, +ℤ-negℤ-cancel, negℤ-+ℤ, ℤ-ind, zero-*ℤ, *ℤ-zero, sucℤ-*ℤ, predℤ-*ℤ, *ℤ-comm, *ℤ-one}
+use borrow.Author.Tests.{eqb-true}
+use Rattle.number.specs.Integers.{Gaussian, integers, gaussian, sameInteger}
 use Rattle.theorems.proofs.Rings.{Ring, exchange}
 
 -- ---- integers
@@ -53,6 +55,22 @@ times-assoc a b c =
     (λ z h. ap (λ (w : ℤ). w *ℤ c) (predℤ-*ℤ z b) ∙ sub-times (z *ℤ b) b c ∙ ap (λ (w : ℤ). w -ℤ b *ℤ c) h ∙ sym (predℤ-*ℤ z (b *ℤ c)))
     a
 
+one-times : (z : ℤ) → pos 1 *ℤ z ≡ z
+unfolding one
+one-times z = *ℤ-comm (pos 1) z ∙ *ℤ-one z
+
+is-same : (z w : ℤ) → sameInteger z w ≡ true → z ≡ w
+is-same (pos m) (pos n) h = ap pos (eqb-true m n h)
+is-same (pos m) (negsuc n) h = absurd (false≢true h)
+is-same (negsuc m) (pos n) h = absurd (false≢true h)
+is-same (negsuc m) (negsuc n) h = ap negsuc (eqb-true m n h)
+
+zero-scale : (v z : ℤ) → sameInteger v (pos 0) ≡ true → v *ℤ z ≡ pos 0
+zero-scale v z h = ap (λ (x : ℤ). x *ℤ z) (is-same v (pos 0) h) ∙ zero-*ℤ z
+
+one-scale : (v z : ℤ) → sameInteger v (pos 1) ≡ true → v *ℤ z ≡ z
+one-scale v z h = ap (λ (x : ℤ). x *ℤ z) (is-same v (pos 1) h) ∙ one-times z
+
 pub integers-ring : Ring integers
 integers-ring =
     record {
@@ -61,9 +79,14 @@ integers-ring =
       add-comm = +ℤ-comm;
       mul-zero = *ℤ-zero;
       zero-mul = zero-*ℤ;
+      one-mul = one-times;
       mul-assoc = times-assoc;
       mul-add = times-add;
       scale-mul = times-assoc;
+      zero-scale = zero-scale;
+      one-scale = one-scale;
+      is-zero = λ a. is-same a (pos 0);
+      is-one = λ a. is-same a (pos 1);
       conj-zero = refl;
       conj-one = refl;
     }
@@ -120,6 +143,11 @@ scaled-product v a b = λ i. record {
   im = ((λ k. times-assoc v (a .re) (b .im) k +ℤ times-assoc v (a .im) (b .re) k) ∙ sym (times-add v (a .re *ℤ b .im) (a .im *ℤ b .re))) i;
 }
 
+is-parts : (a : Gaussian) (x y : ℤ) → sameInteger (a .re) x && sameInteger (a .im) y ≡ true → a ≡ record { re = x; im = y }
+is-parts a x y h =
+    let e = and-eq-true-iff (sameInteger (a .re) x) (sameInteger (a .im) y) .0 h in
+    λ i. record { re = is-same (a .re) x (e .0) i; im = is-same (a .im) y (e .1) i }
+
 pub gaussian-ring : Ring gaussian
 gaussian-ring =
     record {
@@ -128,9 +156,15 @@ gaussian-ring =
       add-comm = λ a b i. record { re = +ℤ-comm (a .re) (b .re) i; im = +ℤ-comm (a .im) (b .im) i };
       mul-zero = λ a i. record { re = *ℤ-zero (a .re) i -ℤ *ℤ-zero (a .im) i; im = *ℤ-zero (a .re) i +ℤ *ℤ-zero (a .im) i };
       zero-mul = λ a i. record { re = zero-*ℤ (a .re) i -ℤ zero-*ℤ (a .im) i; im = zero-*ℤ (a .im) i +ℤ zero-*ℤ (a .re) i };
+      one-mul = λ a. (λ i. record { re = one-times (a .re) i -ℤ zero-*ℤ (a .im) i; im = one-times (a .im) i +ℤ zero-*ℤ (a .re) i })
+          ∙ (λ i. record { re = +ℤ-idr (a .re) i; im = +ℤ-idr (a .im) i });
       mul-assoc = product-assoc;
       mul-add = product-add;
       scale-mul = scaled-product;
+      zero-scale = λ v a h i. record { re = zero-scale v (a .re) h i; im = zero-scale v (a .im) h i };
+      one-scale = λ v a h i. record { re = one-scale v (a .re) h i; im = one-scale v (a .im) h i };
+      is-zero = λ a h. is-parts a (pos 0) (pos 0) h;
+      is-one = λ a h. is-parts a (pos 1) (pos 0) h;
       conj-zero = refl;
       conj-one = refl;
     }

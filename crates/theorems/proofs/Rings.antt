@@ -1,4 +1,5 @@
--- The laws that whole numbers have and floats lack: those of a ring with a conjugate. By them a sum may be taken apart and put together again.
+-- The laws that whole numbers have and floats lack: those of a ring with a conjugate and real factors, where the tests for zero and one are equality.
+-- By them a sum may be taken apart and put together again.
 use Prim.Native.Nat.{ℕ, zero, suc}
 use mathlib.Core.Bool.{Bool, true, false, cond}
 use mathlib.Core.Path.{_≡_, refl, sym, ap, _∙_}
@@ -11,9 +12,14 @@ pub record Ring (Z : Kind) : Type 0 where
   pub add-comm : (a b : Z .Elem) → Z .add a b ≡ Z .add b a
   pub mul-zero : (a : Z .Elem) → Z .mul a (Z .zero) ≡ Z .zero
   pub zero-mul : (a : Z .Elem) → Z .mul (Z .zero) a ≡ Z .zero
+  pub one-mul : (a : Z .Elem) → Z .mul (Z .one) a ≡ a
   pub mul-assoc : (a b c : Z .Elem) → Z .mul (Z .mul a b) c ≡ Z .mul a (Z .mul b c)
   pub mul-add : (a b c : Z .Elem) → Z .mul a (Z .add b c) ≡ Z .add (Z .mul a b) (Z .mul a c)
   pub scale-mul : (v : Z .Factor) (a b : Z .Elem) → Z .mul (Z .scaleReal v a) b ≡ Z .scaleReal v (Z .mul a b)
+  pub zero-scale : (v : Z .Factor) (a : Z .Elem) → Z .isZeroFactor v ≡ true → Z .scaleReal v a ≡ Z .zero
+  pub one-scale : (v : Z .Factor) (a : Z .Elem) → Z .isOneFactor v ≡ true → Z .scaleReal v a ≡ a
+  pub is-zero : (a : Z .Elem) → Z .isZero a ≡ true → a ≡ Z .zero
+  pub is-one : (a : Z .Elem) → Z .isOne a ≡ true → a ≡ Z .one
   pub conj-zero : Z .conj (Z .zero) ≡ Z .zero
   pub conj-one : Z .conj (Z .one) ≡ Z .one
 
@@ -26,6 +32,16 @@ exchange {A} add assoc comm a b c d =
     ∙ sym (assoc a c (add b d))
 
 module _ {Z : Kind} (R : Ring Z) where
+  -- ---- products with a number that is zero or one
+
+  pub zero-times : (a b : Z .Elem) → Z .isZero a ≡ true → Z .mul a b ≡ Z .zero
+  zero-times a b h = ap (λ (x : Z .Elem). Z .mul x b) (R .is-zero a h) ∙ R .zero-mul b
+
+  pub one-times : (a b : Z .Elem) → Z .isOne a ≡ true → Z .mul a b ≡ b
+  one-times a b h = ap (λ (x : Z .Elem). Z .mul x b) (R .is-one a h) ∙ R .one-mul b
+
+  -- ---- sums
+
   -- two sums taken together, index by index
   pub pair-apart : (n : ℕ) (f g : ℕ → Z .Elem) → pairSum Z n f g ≡ Z .add (sum Z n f) (sum Z n g)
   unfolding pairSum sum
