@@ -26,6 +26,10 @@ use Rattle.blas.specs.Symm.{symm}
 use Rattle.blas.specs.Hemm.{hemm}
 use Rattle.blas.specs.Syrk.{syrk}
 use Rattle.blas.specs.Herk.{herk}
+use Rattle.blas.specs.Her.{her}
+use Rattle.blas.specs.Her2.{her2}
+use Rattle.blas.specs.Syr2k.{syr2k}
+use Rattle.blas.specs.Her2k.{her2k}
 
 -- ---- flags
 
@@ -107,3 +111,17 @@ syrkC K uplo trans alpha a beta c =
 abbrev pub herkC : (K : Kind) → ℕ → ℕ → K .Factor → Lent K → K .Factor → Lent K → Outcome K
 herkC K uplo trans alpha a beta c =
     flagged K (isUpLo uplo && isTrans trans) (herk K (upLoOf uplo) (transOf trans) alpha a beta c) (misfit2 K a c) (c .slab)
+
+abbrev pub herC : (K : Kind) → ℕ → K .Factor → Lent K → Lent K → Outcome K
+herC K uplo alpha x a = flagged K (isUpLo uplo) (her K (upLoOf uplo) alpha x a) (misfit2 K x a) (a .slab)
+
+abbrev pub her2C : (K : Kind) → ℕ → K .Elem → Lent K → Lent K → Lent K → Outcome K
+her2C K uplo alpha x y a = flagged K (isUpLo uplo) (her2 K (upLoOf uplo) alpha x y a) (misfit3 K x y a) (a .slab)
+
+abbrev pub syr2kC : (K : Kind) → ℕ → ℕ → K .Elem → Lent K → Lent K → K .Elem → Lent K → Outcome K
+syr2kC K uplo trans alpha a b beta c =
+    flagged K (isUpLo uplo && isTrans trans) (syr2k K (upLoOf uplo) (transOf trans) alpha a b beta c) (misfit3 K a b c) (c .slab)
+
+abbrev pub her2kC : (K : Kind) → ℕ → ℕ → K .Elem → Lent K → Lent K → K .Factor → Lent K → Outcome K
+her2kC K uplo trans alpha a b beta c =
+    flagged K (isUpLo uplo && isTrans trans) (her2k K (upLoOf uplo) (transOf trans) alpha a b beta c) (misfit3 K a b c) (c .slab)
