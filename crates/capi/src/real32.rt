@@ -2,12 +2,15 @@
 
 ghost use Rattle.number.specs.Kind.{real32};
 ghost use Rattle.slab.specs.Elem.{lent};
-ghost use Rattle.capi.specs.Interface.{gemmC, gemvC, hemmC, hemvC, her2C, her2kC, herC, herkC, symmC, syr2kC, syrkC, viewOf, Returns};
+ghost use Rattle.capi.specs.Interface.{gemmC, gemvC, hemmC, hemvC, her2C, her2kC, herC, herkC, symmC, syr2kC, syrkC, trmmC, trmvC, trsmC, trsvC, viewOf, Returns};
+use crate::flags::diag_of;
 use crate::flags::is_side_uplo;
+use crate::flags::is_side_uplo_trans_diag;
 use crate::flags::is_trans;
 use crate::flags::is_trans_trans;
 use crate::flags::is_uplo;
 use crate::flags::is_uplo_trans;
+use crate::flags::is_uplo_trans_diag;
 use crate::flags::side_of;
 use crate::flags::trans_of;
 use crate::flags::uplo_of;
@@ -489,5 +492,149 @@ pub extern "C" fn zb_sher2k(
         ))
     } else {
         number(refuse3(va, a.len(), vb, b.len(), vc, c.len()))
+    }
+}
+
+// x ← op(A) x, A triangular
+#[no_mangle]
+pub extern "C" fn zb_strmv(
+    uplo: u8,
+    trans: u8,
+    diag: u8,
+    a: &[f32],
+    astart: usize,
+    arows: usize,
+    acols: usize,
+    ars: i64,
+    acs: i64,
+    x: &mut [f32],
+    xstart: usize,
+    xrows: usize,
+    xcols: usize,
+    xrs: i64,
+    xcs: i64,
+) -> u8
+    ensures { λ r. ⌜ Returns real32 (trmvC real32 uplo trans diag (lent real32 (now (a .entry)) (viewOf astart arows acols ars acs)) (lent real32 (now (x .entry)) (viewOf xstart xrows xcols xrs xcs))) r (now (x .exit)) ⌝ }
+{
+    let va = view_of(astart, arows, acols, ars, acs);
+    let vx = view_of(xstart, xrows, xcols, xrs, xcs);
+    if is_uplo_trans_diag(uplo, trans, diag) {
+        number(triangle::real32::trmv(uplo_of(uplo), trans_of(trans), diag_of(diag), a, va, x, vx))
+    } else {
+        number(refuse2(va, a.len(), vx, x.len()))
+    }
+}
+
+// op(A) x = b solved, x holding b, A triangular
+#[no_mangle]
+pub extern "C" fn zb_strsv(
+    uplo: u8,
+    trans: u8,
+    diag: u8,
+    a: &[f32],
+    astart: usize,
+    arows: usize,
+    acols: usize,
+    ars: i64,
+    acs: i64,
+    x: &mut [f32],
+    xstart: usize,
+    xrows: usize,
+    xcols: usize,
+    xrs: i64,
+    xcs: i64,
+) -> u8
+    ensures { λ r. ⌜ Returns real32 (trsvC real32 uplo trans diag (lent real32 (now (a .entry)) (viewOf astart arows acols ars acs)) (lent real32 (now (x .entry)) (viewOf xstart xrows xcols xrs xcs))) r (now (x .exit)) ⌝ }
+{
+    let va = view_of(astart, arows, acols, ars, acs);
+    let vx = view_of(xstart, xrows, xcols, xrs, xcs);
+    if is_uplo_trans_diag(uplo, trans, diag) {
+        number(triangle::real32::trsv(uplo_of(uplo), trans_of(trans), diag_of(diag), a, va, x, vx))
+    } else {
+        number(refuse2(va, a.len(), vx, x.len()))
+    }
+}
+
+// B ← alpha op(A) B or alpha B op(A), A triangular
+#[no_mangle]
+pub extern "C" fn zb_strmm(
+    side: u8,
+    uplo: u8,
+    trans: u8,
+    diag: u8,
+    alpha: f32,
+    a: &[f32],
+    astart: usize,
+    arows: usize,
+    acols: usize,
+    ars: i64,
+    acs: i64,
+    b: &mut [f32],
+    bstart: usize,
+    brows: usize,
+    bcols: usize,
+    brs: i64,
+    bcs: i64,
+) -> u8
+    ensures { λ r. ⌜ Returns real32 (trmmC real32 side uplo trans diag alpha (lent real32 (now (a .entry)) (viewOf astart arows acols ars acs)) (lent real32 (now (b .entry)) (viewOf bstart brows bcols brs bcs))) r (now (b .exit)) ⌝ }
+{
+    let va = view_of(astart, arows, acols, ars, acs);
+    let vb = view_of(bstart, brows, bcols, brs, bcs);
+    if is_side_uplo_trans_diag(side, uplo, trans, diag) {
+        number(triangle::real32::trmm(
+            side_of(side),
+            uplo_of(uplo),
+            trans_of(trans),
+            diag_of(diag),
+            Real32(alpha),
+            a,
+            va,
+            b,
+            vb,
+        ))
+    } else {
+        number(refuse2(va, a.len(), vb, b.len()))
+    }
+}
+
+// op(A) X = alpha B or X op(A) = alpha B solved in B's place, A triangular
+#[no_mangle]
+pub extern "C" fn zb_strsm(
+    side: u8,
+    uplo: u8,
+    trans: u8,
+    diag: u8,
+    alpha: f32,
+    a: &[f32],
+    astart: usize,
+    arows: usize,
+    acols: usize,
+    ars: i64,
+    acs: i64,
+    b: &mut [f32],
+    bstart: usize,
+    brows: usize,
+    bcols: usize,
+    brs: i64,
+    bcs: i64,
+) -> u8
+    ensures { λ r. ⌜ Returns real32 (trsmC real32 side uplo trans diag alpha (lent real32 (now (a .entry)) (viewOf astart arows acols ars acs)) (lent real32 (now (b .entry)) (viewOf bstart brows bcols brs bcs))) r (now (b .exit)) ⌝ }
+{
+    let va = view_of(astart, arows, acols, ars, acs);
+    let vb = view_of(bstart, brows, bcols, brs, bcs);
+    if is_side_uplo_trans_diag(side, uplo, trans, diag) {
+        number(triangle::real32::trsm(
+            side_of(side),
+            uplo_of(uplo),
+            trans_of(trans),
+            diag_of(diag),
+            Real32(alpha),
+            a,
+            va,
+            b,
+            vb,
+        ))
+    } else {
+        number(refuse2(va, a.len(), vb, b.len()))
     }
 }
