@@ -32,7 +32,7 @@ archive: need-rt
 	rt staticlib capi
 
 c-test: archive need-cc
-	$(CC) -std=c11 -O1 -Wall -Wextra -Iinclude -o target/c-test tests/c/products.c target/staticlib/libcapi.a -lm
+	$(CC) -std=c11 -O1 -Wall -Wextra -Iinclude -o target/c-test tests/c/*.c target/staticlib/libcapi.a -lm
 	target/c-test
 
 rust-test: archive need-cargo

@@ -1,12 +1,12 @@
 //! The comparison: the oracle and a candidate on the same calls, by bits, NaNs alike, every slab whole.
 
 use crate::answer::answer;
-use crate::call::{Call, Routine};
+use crate::call::{Call, Kind, Routine};
 
 /// What a comparison found.
 pub struct Report {
-    /// Calls compared, by routine.
-    pub calls: [u64; 15],
+    /// Calls compared, by routine and kind.
+    pub calls: [[u64; 3]; 15],
     /// Answers that the oracle gave.
     pub answers: [u64; 6],
     pub differences: u64,
@@ -16,7 +16,7 @@ pub struct Report {
 
 impl Report {
     pub fn total(&self) -> u64 {
-        self.calls.iter().sum()
+        self.calls.iter().flatten().sum()
     }
 }
 
@@ -39,13 +39,13 @@ pub fn difference(before: &Call, ours: (&Call, u8), theirs: (&Call, u8)) -> Opti
 
 /// Compares on the calls; a candidate that does not have a routine gives no answer.
 pub fn compare(candidate: fn(&mut Call) -> Option<u8>, calls: impl Iterator<Item = Call>) -> Report {
-    let mut report = Report { calls: [0; 15], answers: [0; 6], differences: 0, first: None };
+    let mut report = Report { calls: [[0; 3]; 15], answers: [0; 6], differences: 0, first: None };
     for (n, before) in calls.enumerate() {
         let mut theirs = before.clone();
         let Some(their_answer) = candidate(&mut theirs) else { continue };
         let mut ours = before.clone();
         let our_answer = answer(&mut ours);
-        report.calls[before.routine as usize] += 1;
+        report.calls[before.routine as usize][before.kind as usize] += 1;
         report.answers[usize::from(our_answer)] += 1;
         if let Some(found) = difference(&before, (&ours, our_answer), (&theirs, their_answer)) {
             report.differences += 1;
@@ -67,8 +67,9 @@ pub fn first_difference(candidate: fn(&mut Call) -> u8, calls: impl Iterator<Ite
 /// The report in lines.
 pub fn show(report: &Report) -> String {
     let mut text = String::new();
-    for routine in Routine::ALL.into_iter().filter(|&routine| report.calls[routine as usize] > 0) {
-        text += &format!("  {:6} {:9} calls\n", routine.name(), report.calls[routine as usize]);
+    for (routine, kinds) in Routine::ALL.iter().zip(report.calls).filter(|(_, kinds)| *kinds != [0; 3]) {
+        let counts: Vec<String> = Kind::ALL.iter().zip(kinds).map(|(kind, n)| format!("{n} {}", kind.name())).collect();
+        text += &format!("  {:6} {}\n", routine.name(), counts.join(", "));
     }
     text += &format!("  answers 0 to 5: {:?}\n", report.answers);
     text += &format!("  {} calls compared, {} differ\n", report.total(), report.differences);

@@ -1,16 +1,7 @@
-/* Calls one product of each kind through the C interface and holds the results to document 01's worked examples. */
-#include "zirve_blas.h"
-#include <math.h>
-#include <stdio.h>
+/* One product of each kind, a refusal, and a flag out of range. */
+#include "test.h"
 
-static int failed;
-
-static void expect(const char *what, int ok) {
-    printf("%s: %s\n", what, ok ? "ok" : "FAILED");
-    failed += !ok;
-}
-
-int main(void) {
+void products(void) {
     /* gemv NoTrans, A [[1,2],[3,4]], x (1,1), alpha 2, beta 0, y (NaN,5): (6,14) */
     const double a[] = {1, 2, 3, 4}, x[] = {1, 1};
     double y[] = {NAN, 5};
@@ -37,5 +28,4 @@ int main(void) {
     /* a flag out of its range is a misfit */
     r = zb_dgemm(3, 0, 1.0, a, 0, 0, 2, 0, 0, 0, a, 0, 0, 0, 3, 0, 0, 1.0, c, 6, 0, 2, 3, 3, 1);
     expect("zb_dgemm flag", r == 3 && c[0] == 1 && c[5] == 6);
-    return failed != 0;
 }

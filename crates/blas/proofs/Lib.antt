@@ -4,4 +4,3 @@ pub mod OutcomeLaws
 pub mod Elements
 pub mod OverLaws
 pub mod SubstitutionLaws
-pub mod WorkedTriangles

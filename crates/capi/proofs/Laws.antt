@@ -11,12 +11,13 @@ use Rattle.number.specs.Kind.{Kind}
 use Rattle.view.specs.declared.View.{View}
 use Rattle.view.specs.declared.Answer.{Answer}
 use Rattle.view.specs.declared.Answer.the-variants.{Done, TooLarge, OutOfBounds, ShapeMismatch, Overlap, Singular}
+use Rattle.view.specs.declared.Diag.the-variants.{Unit}
 use Rattle.view.specs.declared.Side.the-variants.{Right}
 use Rattle.view.specs.declared.Trans.the-variants.{ConjTrans}
 use Rattle.view.specs.declared.UpLo.the-variants.{Lower}
 use Rattle.view.specs.Judge.{answerNumber}
 use Rattle.blas.specs.Outcome.{Outcome, outcome, Gives}
-use Rattle.capi.specs.Interface.{Returns, flagged, transOf, upLoOf, sideOf, viewOf}
+use Rattle.capi.specs.Interface.{Returns, flagged, transOf, upLoOf, sideOf, diagOf, viewOf}
 
 module _ (K : Kind) (valid flag : Bool) (o : Outcome K) (refusal : Answer) (lent : List (K .Cell)) (told : flag ≡ valid) where
   pub called : flag ≡ true → (r : Answer) (n : ℕ) (after : List (K .Cell)) → Gives K o r after → n ≡ answerNumber r → Returns K (flagged K valid o refusal lent) n after
@@ -55,6 +56,11 @@ pub side-else : (n : ℕ) → (n ≡ 0 → ⊥) → Right ≡ sideOf n
 unfolding sideOf
 side-else zero p = absurd (p refl)
 side-else (suc n) p = refl
+
+pub diag-else : (n : ℕ) → (n ≡ 0 → ⊥) → Unit ≡ diagOf n
+unfolding diagOf
+diag-else zero p = absurd (p refl)
+diag-else (suc n) p = refl
 
 -- ---- views: a signed argument arrives as its bits
 

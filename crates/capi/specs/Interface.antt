@@ -9,6 +9,8 @@ use lib.IntN.{ℤ}
 use Rattle.number.specs.Kind.{Kind}
 use Rattle.number.specs.declared.Complex.{Complex}
 use Rattle.view.specs.declared.Answer.{Answer}
+use Rattle.view.specs.declared.Diag.{Diag}
+use Rattle.view.specs.declared.Diag.the-variants.{NonUnit, Unit}
 use Rattle.view.specs.declared.Side.{Side}
 use Rattle.view.specs.declared.Side.the-variants.{Left, Right}
 use Rattle.view.specs.declared.Trans.{Trans}
@@ -26,6 +28,14 @@ use Rattle.blas.specs.Symm.{symm}
 use Rattle.blas.specs.Hemm.{hemm}
 use Rattle.blas.specs.Syrk.{syrk}
 use Rattle.blas.specs.Herk.{herk}
+use Rattle.blas.specs.Her.{her}
+use Rattle.blas.specs.Her2.{her2}
+use Rattle.blas.specs.Syr2k.{syr2k}
+use Rattle.blas.specs.Her2k.{her2k}
+use Rattle.blas.specs.Trmv.{trmv}
+use Rattle.blas.specs.Trsv.{trsv}
+use Rattle.blas.specs.Trmm.{trmm}
+use Rattle.blas.specs.Trsm.{trsm}
 
 -- ---- flags
 
@@ -50,6 +60,13 @@ isSide n = ltb n 2
 unfoldable pub sideOf : ℕ → Side
 sideOf zero = Left
 sideOf (suc n) = Right
+
+abbrev pub isDiag : ℕ → Bool
+isDiag n = ltb n 2
+
+unfoldable pub diagOf : ℕ → Diag
+diagOf zero = NonUnit
+diagOf (suc n) = Unit
 
 -- ---- views
 
@@ -107,3 +124,33 @@ syrkC K uplo trans alpha a beta c =
 abbrev pub herkC : (K : Kind) → ℕ → ℕ → K .Factor → Lent K → K .Factor → Lent K → Outcome K
 herkC K uplo trans alpha a beta c =
     flagged K (isUpLo uplo && isTrans trans) (herk K (upLoOf uplo) (transOf trans) alpha a beta c) (misfit2 K a c) (c .slab)
+
+abbrev pub herC : (K : Kind) → ℕ → K .Factor → Lent K → Lent K → Outcome K
+herC K uplo alpha x a = flagged K (isUpLo uplo) (her K (upLoOf uplo) alpha x a) (misfit2 K x a) (a .slab)
+
+abbrev pub her2C : (K : Kind) → ℕ → K .Elem → Lent K → Lent K → Lent K → Outcome K
+her2C K uplo alpha x y a = flagged K (isUpLo uplo) (her2 K (upLoOf uplo) alpha x y a) (misfit3 K x y a) (a .slab)
+
+abbrev pub syr2kC : (K : Kind) → ℕ → ℕ → K .Elem → Lent K → Lent K → K .Elem → Lent K → Outcome K
+syr2kC K uplo trans alpha a b beta c =
+    flagged K (isUpLo uplo && isTrans trans) (syr2k K (upLoOf uplo) (transOf trans) alpha a b beta c) (misfit3 K a b c) (c .slab)
+
+abbrev pub her2kC : (K : Kind) → ℕ → ℕ → K .Elem → Lent K → Lent K → K .Factor → Lent K → Outcome K
+her2kC K uplo trans alpha a b beta c =
+    flagged K (isUpLo uplo && isTrans trans) (her2k K (upLoOf uplo) (transOf trans) alpha a b beta c) (misfit3 K a b c) (c .slab)
+
+abbrev pub trmvC : (K : Kind) → ℕ → ℕ → ℕ → Lent K → Lent K → Outcome K
+trmvC K uplo trans diag a x =
+    flagged K (isUpLo uplo && isTrans trans && isDiag diag) (trmv K (upLoOf uplo) (transOf trans) (diagOf diag) a x) (misfit2 K a x) (x .slab)
+
+abbrev pub trsvC : (K : Kind) → ℕ → ℕ → ℕ → Lent K → Lent K → Outcome K
+trsvC K uplo trans diag a x =
+    flagged K (isUpLo uplo && isTrans trans && isDiag diag) (trsv K (upLoOf uplo) (transOf trans) (diagOf diag) a x) (misfit2 K a x) (x .slab)
+
+abbrev pub trmmC : (K : Kind) → ℕ → ℕ → ℕ → ℕ → K .Elem → Lent K → Lent K → Outcome K
+trmmC K side uplo trans diag alpha a b =
+    flagged K (isSide side && (isUpLo uplo && isTrans trans && isDiag diag)) (trmm K (sideOf side) (upLoOf uplo) (transOf trans) (diagOf diag) alpha a b) (misfit2 K a b) (b .slab)
+
+abbrev pub trsmC : (K : Kind) → ℕ → ℕ → ℕ → ℕ → K .Elem → Lent K → Lent K → Outcome K
+trsmC K side uplo trans diag alpha a b =
+    flagged K (isSide side && (isUpLo uplo && isTrans trans && isDiag diag)) (trsm K (sideOf side) (upLoOf uplo) (transOf trans) (diagOf diag) alpha a b) (misfit2 K a b) (b .slab)

@@ -2,7 +2,8 @@
 
 ghost use mathlib.Core.Path.{_≡_};
 ghost use mathlib.Core.Bool.{_&&_};
-ghost use Rattle.capi.specs.Interface.{isTrans, isUpLo, isSide, transOf, upLoOf, sideOf, viewOf};
+ghost use Rattle.capi.specs.Interface.{isTrans, isUpLo, isSide, isDiag, transOf, upLoOf, sideOf, diagOf, viewOf};
+use view::Diag;
 use view::Side;
 use view::Trans;
 use view::UpLo;
@@ -20,6 +21,18 @@ pub fn is_uplo(u: u8) -> bool
     u < 2
 }
 
+fn is_side(s: u8) -> bool
+    ensures { λ r. ⌜ r ≡ isSide s ⌝ }
+{
+    s < 2
+}
+
+fn is_diag(d: u8) -> bool
+    ensures { λ r. ⌜ r ≡ isDiag d ⌝ }
+{
+    d < 2
+}
+
 pub fn is_trans_trans(s: u8, t: u8) -> bool
     ensures { λ r. ⌜ r ≡ isTrans s && isTrans t ⌝ }
 {
@@ -29,13 +42,33 @@ pub fn is_trans_trans(s: u8, t: u8) -> bool
 pub fn is_side_uplo(s: u8, u: u8) -> bool
     ensures { λ r. ⌜ r ≡ isSide s && isUpLo u ⌝ }
 {
-    if is_uplo(s) { is_uplo(u) } else { false }
+    if is_side(s) { is_uplo(u) } else { false }
 }
 
 pub fn is_uplo_trans(u: u8, t: u8) -> bool
     ensures { λ r. ⌜ r ≡ isUpLo u && isTrans t ⌝ }
 {
     if is_uplo(u) { is_trans(t) } else { false }
+}
+
+pub fn is_uplo_trans_diag(u: u8, t: u8, d: u8) -> bool
+    ensures { λ r. ⌜ r ≡ isUpLo u && isTrans t && isDiag d ⌝ }
+{
+    if is_uplo_trans(u, t) {
+        is_diag(d)
+    } else {
+        false
+    }
+}
+
+pub fn is_side_uplo_trans_diag(s: u8, u: u8, t: u8, d: u8) -> bool
+    ensures { λ r. ⌜ r ≡ isSide s && (isUpLo u && isTrans t && isDiag d) ⌝ }
+{
+    if is_side(s) {
+        is_uplo_trans_diag(u, t, d)
+    } else {
+        false
+    }
 }
 
 pub fn trans_of(t: u8) -> Trans
@@ -63,6 +96,15 @@ pub fn side_of(s: u8) -> Side
     match s {
         0 => Side::Left,
         _ => Side::Right,
+    }
+}
+
+pub fn diag_of(d: u8) -> Diag
+    ensures { λ r. ⌜ r ≡ diagOf d ⌝ }
+{
+    match d {
+        0 => Diag::NonUnit,
+        _ => Diag::Unit,
     }
 }
 

@@ -36,12 +36,12 @@ use Rattle.theorems.proofs.AgreeProducts.{Routine, Probe, Plain, produc
 
 -- ---- shapes
 
-op-same : (t : Trans) (v v' : View) → SameShape v v' → (opRows t v ≡ opRows t v') × (opCols t v ≡ opCols t v')
+pub op-same : (t : Trans) (v v' : View) → SameShape v v' → (opRows t v ≡ opRows t v') × (opCols t v ≡ opCols t v')
 op-same NoTrans v v' w = (w .rows, w .cols)
 op-same Transposed v v' w = (w .cols, w .rows)
 op-same ConjTrans v v' w = (w .cols, w .rows)
 
-op-le : (t : Trans) (v : View) → v .rows ≤ limit → v .cols ≤ limit → (opRows t v ≤ limit) × (opCols t v ≤ limit)
+pub op-le : (t : Trans) (v : View) → v .rows ≤ limit → v .cols ≤ limit → (opRows t v ≤ limit) × (opCols t v ≤ limit)
 op-le NoTrans v p q = (p, q)
 op-le Transposed v p q = (q, p)
 op-le ConjTrans v p q = (q, p)

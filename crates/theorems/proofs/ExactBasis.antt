@@ -11,19 +11,21 @@ use Rattle.slab.specs.Elem.{Lent}
 use Rattle.slab.specs.Update.{Mask, everywhere}
 use Rattle.blas.specs.Matrix.{Matrix, matrix, vector}
 use Rattle.theorems.specs.Exactness.{Wholes, Whole, WholeFactor, Shows, ShowsVector, largestPart, largestScalarPart}
-use Rattle.theorems.proofs.ExactSums.{Room, WholeLaws, Sized, SizedFactor}
+use Rattle.theorems.proofs.Rings.{Ring}
+use Rattle.theorems.proofs.ExactSums.{Room, Sized, SizedFactor}
 use Rattle.theorems.proofs.ExactReadings.{SizedMatrix}
 
 pub record Basis (K Z : Kind) : Type 0 where
   pub laws : Laws K
   pub exact : Exact K Z
-  pub whole : WholeLaws Z
+  pub ring : Ring Z
   -- the magnitude of a whole number's largest part; how many parts, each of at most that, make up its size
   pub magnitude : Z .Elem → ℕ
   pub factorMagnitude : Z .Factor → ℕ
   pub parts : ℕ
   pub size-le : (z : Z .Elem) → exact .size z ≤ parts * magnitude z
   pub factor-size-le : (v : Z .Factor) → exact .sizeFactor v ≤ parts * factorMagnitude v
+  pub size-one : exact .size (Z .one) ≤ parts * largestPart
   -- the range of document 01 leaves room for every shape, with two products for each index
   pub room : (n : ℕ) → n ≤ 2 * limit → Room (exact .bound) n (parts * largestPart) (parts * largestScalarPart)
 

@@ -23,7 +23,7 @@ use Rattle.blas.specs.Matrix.{Matrix, matrix, op, symmetric, hermitian, dot, ac
 use Rattle.view.specs.Triangle.{inTriangle}
 use Rattle.blas.specs.Outcome.{outcome}
 use Rattle.theorems.specs.Exactness.{Scalar, RealScalar, Shows, largestScalarPart}
-use Rattle.theorems.proofs.ExactSums.{Room, room-old, room-product, mul-sized, scale-sized, scaled-sized, scaled-real-sized, accumulate-exact}
+use Rattle.theorems.proofs.ExactSums.{Room, room-old, room-sum, room-product, mul-sized, scale-sized, scaled-sized, scaled-real-sized, accumulate-exact}
 use Rattle.theorems.proofs.ExactReadings.{SizedMatrix, op-sized, symmetric-sized, hermitian-sized, dot-sized}
 use Rattle.theorems.proofs.ExactBasis.{Basis, wholes, elementSize, scalarSize, whole-sized, factor-sized, shows-sized}
 use Rattle.theorems.proofs.ExactTargets.{outcome-same}
@@ -64,16 +64,20 @@ module _ {K Z : Kind} (B : Basis K Z) where
   pub by-beta : (mask : Mask) (rows cols : ℕ) (x : Matrix K) (z : Matrix Z) (beta : K .Elem) (zbeta : Z .Elem) → Scalar (wholes B) beta zbeta
       → (Z .isZero zbeta ≡ false → Range mask rows cols x z) → Scaled mask rows cols (λ i j. scaled K beta (x i j)) (λ i j. Z .mul zbeta (z i j))
   by-beta mask rows cols x z beta zbeta h old i j p q u =
-      scaled-sized (B .exact) (B .whole) (scalarSize B) (elementSize B) scaled-fits (x i j) (z i j) beta zbeta
+      scaled-sized (B .exact) (B .ring) (scalarSize B) (elementSize B) scaled-fits (x i j) (z i j) beta zbeta
       (whole-sized B largestScalarPart beta zbeta h)
       (λ e. old e i j p q u)
 
   pub by-real-beta : (mask : Mask) (rows cols : ℕ) (x : Matrix K) (z : Matrix Z) (beta : K .Factor) (zbeta : Z .Factor) → RealScalar (wholes B) beta zbeta
       → (Z .isZeroFactor zbeta ≡ false → Range mask rows cols x z) → Scaled mask rows cols (λ i j. scaledReal K beta (x i j)) (λ i j. Z .scaleReal zbeta (z i j))
   by-real-beta mask rows cols x z beta zbeta h old i j p q u =
-      scaled-real-sized (B .exact) (B .whole) (scalarSize B) (elementSize B) scaled-fits (x i j) (z i j) beta zbeta
+      scaled-real-sized (B .exact) (B .ring) (scalarSize B) (elementSize B) scaled-fits (x i j) (z i j) beta zbeta
       (factor-sized B largestScalarPart beta zbeta h)
       (λ e. old e i j p q u)
+
+  -- one product of two elements
+  pub product-fits : elementSize B * elementSize B ≤ B .exact .bound
+  product-fits = omega (arith, room-sum (B .exact .bound) 1 (elementSize B) (scalarSize B) (B .room 1 (lit≤ tt)))
 
   -- ---- the engine: n products times a scalar, added to the scaled target
 

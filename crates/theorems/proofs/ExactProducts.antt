@@ -33,6 +33,21 @@ use Rattle.theorems.proofs.ExactTargets.{answer-done}
 use Rattle.theorems.proofs.ExactBasis.{Basis, wholes, shows-sized, vector-sized}
 use Rattle.theorems.proofs.ExactEngine.{Few, few-rows, few-op-cols, few-order, Range, Sums, dot-sums, by-beta, by-real-beta, by-alpha, by-real-alpha, leaves, op-range, symmetric-range, hermitian-range, fit}
 
+-- tl reads A as t does, and tr as its transpose
+abbrev pub Turned : Trans → Trans → Trans → Type 0
+Turned t tl tr =
+    (v : View) → (opRows tl v ≡ opRows t v) × (opCols tl v ≡ opCols t v) × (opRows tr v ≡ opCols t v) × (opCols tr v ≡ opRows t v)
+
+pub syrk-turned : (t : Trans) → Turned t (syrkLeft t) (syrkRight t)
+syrk-turned NoTrans v = (refl, refl, refl, refl)
+syrk-turned Transposed v = (refl, refl, refl, refl)
+syrk-turned ConjTrans v = (refl, refl, refl, refl)
+
+pub herk-turned : (t : Trans) → Turned t (herkLeft t) (herkRight t)
+herk-turned NoTrans v = (refl, refl, refl, refl)
+herk-turned Transposed v = (refl, refl, refl, refl)
+herk-turned ConjTrans v = (refl, refl, refl, refl)
+
 module _ {K Z : Kind} (B : Basis K Z) where
   -- ---- gemm
 
@@ -150,20 +165,6 @@ module _ {K Z : Kind} (B : Basis K Z) where
       sided-exact alpha a b beta c zalpha zb zbeta zc halpha hb hbeta hc _ _ (λ n e e'. hermitian-range B uplo a za n e e' ha) Right
 
   -- ---- syrk and herk: A twice, by tl as op(A) is and by tr as its transpose is
-
-  abbrev Turned : Trans → Trans → Trans → Type 0
-  Turned t tl tr =
-      (v : View) → (opRows tl v ≡ opRows t v) × (opCols tl v ≡ opCols t v) × (opRows tr v ≡ opCols t v) × (opCols tr v ≡ opRows t v)
-
-  syrk-turned : (t : Trans) → Turned t (syrkLeft t) (syrkRight t)
-  syrk-turned NoTrans v = (refl, refl, refl, refl)
-  syrk-turned Transposed v = (refl, refl, refl, refl)
-  syrk-turned ConjTrans v = (refl, refl, refl, refl)
-
-  herk-turned : (t : Trans) → Turned t (herkLeft t) (herkRight t)
-  herk-turned NoTrans v = (refl, refl, refl, refl)
-  herk-turned Transposed v = (refl, refl, refl, refl)
-  herk-turned ConjTrans v = (refl, refl, refl, refl)
 
   twice-sums : (t tl tr : Trans) → Turned t tl tr → (a : Lent K) (z : Matrix Z) → Shows (wholes B) everywhere a z → (c : View) → syrkShape t (a .view) c ≡ true
       → (few : Few (opCols t (a .view)))

@@ -7,7 +7,8 @@ use native.Mathlib.Omega.{arith}
 use Rattle.number.specs.Kind.{Kind, Same, SameFactor}
 use Rattle.number.specs.Scaling.{scaled, scaledReal}
 use Rattle.number.specs.Laws.{Exact}
-use Rattle.blas.specs.Matrix.{sum}
+use Rattle.blas.specs.Matrix.{sum, sumOver, pairSum}
+use Rattle.theorems.proofs.Rings.{Ring, zero-times, one-times}
 
 -- s (m + n m²) is at most the bound: with elements of size m and scalars of size s, no intermediate result of n products passes it
 pub record Room (bound n m s : ℕ) : Type 0 where
@@ -31,13 +32,6 @@ room-product bound n m s r = omega (arith, r .room)
 
 pub room-sum : (bound n m s : ℕ) → Room bound n m s → n * (m * m) ≤ bound
 room-sum bound n m s r = omega (arith, mul-le-mul-right (n * (m * m)) (r .some), r .room)
-
--- the products of whole numbers with zero and one
-pub record WholeLaws (Z : Kind) : Type 0 where
-  pub zero-times : (b z : Z .Elem) → Z .isZero b ≡ true → Z .mul b z ≡ Z .zero
-  pub one-times : (b z : Z .Elem) → Z .isOne b ≡ true → Z .mul b z ≡ z
-  pub zero-scales : (v : Z .Factor) (z : Z .Elem) → Z .isZeroFactor v ≡ true → Z .scaleReal v z ≡ Z .zero
-  pub one-scales : (v : Z .Factor) (z : Z .Elem) → Z .isOneFactor v ≡ true → Z .scaleReal v z ≡ z
 
 module _ {K Z : Kind} (E : Exact K Z) where
   -- x is z as a number, of size at most m
@@ -69,6 +63,33 @@ module _ {K Z : Kind} (E : Exact K Z) where
   sum-exact (suc n) m f g t h =
       wider (omega arith)
       (add-sized (n * m) m (sum K n f) (f n) (sum Z n g) (g n) (sum-exact n m f g (λ p l. t p (omega arith)) (omega arith)) (t n (omega arith)) (omega arith))
+
+  -- over admitted indices alone
+  pub over-exact : (n m : ℕ) (admits : ℕ → Bool) (f : ℕ → K .Elem) (g : ℕ → Z .Elem) → ((p : ℕ) → p < n → admits p ≡ true → Sized m (f p) (g p)) → n * m ≤ E .bound
+      → Sized (n * m) (sumOver K n admits f) (sumOver Z n admits g)
+  unfolding sumOver
+  over-exact zero m admits f g t h = record { same = E .zero-exact; size = omega (arith, E .size-zero) }
+  over-exact (suc n) m admits f g t h = go (admits n) (t n (omega arith)) (over-exact n m admits f g (λ p l. t p (omega arith)) (omega arith))
+    where
+      go : (b : Bool) → (b ≡ true → Sized m (f n) (g n)) → Sized (n * m) (sumOver K n admits f) (sumOver Z n admits g)
+          → Sized (suc n * m) (cond b (K .add (sumOver K n admits f) (f n)) (sumOver K n admits f)) (cond b (Z .add (sumOver Z n admits g) (g n)) (sumOver Z n admits g))
+      go true e s = wider (omega arith) (add-sized (n * m) m (sumOver K n admits f) (f n) (sumOver Z n admits g) (g n) s (e refl) (omega arith))
+      go false e s = wider (omega arith) s
+
+  -- two terms an index
+  pub pair-exact : (n m : ℕ) (f f' : ℕ → K .Elem) (g g' : ℕ → Z .Elem) → ((p : ℕ) → p < n → Sized m (f p) (g p)) → ((p : ℕ) → p < n → Sized m (f' p) (g' p))
+      → 2 * n * m ≤ E .bound → Sized (2 * n * m) (pairSum K n f f') (pairSum Z n g g')
+  unfolding pairSum
+  pair-exact zero m f f' g g' t t' h = record { same = E .zero-exact; size = omega (arith, E .size-zero) }
+  pair-exact (suc n) m f f' g g' t t' h =
+      let one =
+      add-sized (2 * n * m) m (pairSum K n f f') (f n) (pairSum Z n g g') (g n)
+      (pair-exact n m f f' g g' (λ p l. t p (omega arith)) (λ p l. t' p (omega arith)) (omega arith))
+      (t n (omega arith))
+      (omega arith)
+      in
+      wider (omega arith)
+      (add-sized (2 * n * m + m) m (K .add (pairSum K n f f') (f n)) (f' n) (Z .add (pairSum Z n g g') (g n)) (g' n) one (t' n (omega arith)) (omega arith))
 
   -- n products of elements of size m
   pub dot-exact : (n m : ℕ) (f f' : ℕ → K .Elem) (g g' : ℕ → Z .Elem) → ((p : ℕ) → p < n → Sized m (f p) (g p)) → ((p : ℕ) → p < n → Sized m (f' p) (g' p))
@@ -106,13 +127,13 @@ module _ {K Z : Kind} (E : Exact K Z) where
       record { same = subst (λ (w : Z .Elem). Same K x (E .ofWhole w)) (sym (e' refl)) (h refl); size = t refl .size }
   judged k false false x y z p e e' h t = t refl
 
-  module _ (U : WholeLaws Z) (s m : ℕ) (h : s * m ≤ E .bound) (y : K .Elem) (b : Z .Elem) where
+  module _ (R : Ring Z) (s m : ℕ) (h : s * m ≤ E .bound) (y : K .Elem) (b : Z .Elem) where
     pub scaled-sized : (x : K .Elem) (a : Z .Elem) → Sized s x a → (Z .isZero a ≡ false → Sized m y b) → Sized (s * m) (scaled K x y) (Z .mul a b)
     scaled-sized x a p q =
         let e = sym (E .isZero-exact (p .same)) in
         judged (s * m) (K .isZero x) (K .isOne x) y (K .mul x y) b (Z .mul a b)
-        (λ u. U .zero-times a b (e ∙ u))
-        (λ u. U .one-times a b (sym (E .isOne-exact (p .same)) ∙ u))
+        (λ u. zero-times R a b (e ∙ u))
+        (λ u. one-times R a b (sym (E .isOne-exact (p .same)) ∙ u))
         (λ u. q (e ∙ u) .same)
         (λ u. mul-sized s m x y a b p (q (e ∙ u)) h)
 
@@ -121,8 +142,8 @@ module _ {K Z : Kind} (E : Exact K Z) where
     scaled-real-sized v c p q =
         let e = sym (E .isZeroFactor-exact (p .same)) in
         judged (s * m) (K .isZeroFactor v) (K .isOneFactor v) y (K .scaleReal v y) b (Z .scaleReal c b)
-        (λ u. U .zero-scales c b (e ∙ u))
-        (λ u. U .one-scales c b (sym (E .isOneFactor-exact (p .same)) ∙ u))
+        (λ u. R .zero-scale c b (e ∙ u))
+        (λ u. R .one-scale c b (sym (E .isOneFactor-exact (p .same)) ∙ u))
         (λ u. q (e ∙ u) .same)
         (λ u. scale-sized s m v y c b p (q (e ∙ u)) h)
 

@@ -11,12 +11,9 @@ use Rattle.view.specs.declared.Answer.{Answer}
 use Rattle.view.specs.declared.Answer.the-variants.{Done, TooLarge, OutOfBounds, ShapeMismatch, Overlap, Singular}
 use Rattle.view.specs.Refusals.{overlaps}
 use Rattle.view.specs.Steps.{Accepted}
-use Rattle.view.specs.PlaceLaws.{fits→index-lt}
-use Rattle.view.specs.OverlapLaws.{no-overlap→index-inj}
 use Rattle.slab.specs.Elem.{elem}
 use Rattle.slab.specs.Update.{Mask, Change, update}
-use Rattle.slab.specs.Distinct.{Inside, Distinct}
-use Rattle.slab.proofs.UpdateLaws.{update-shown}
+use Rattle.blas.proofs.Elements.{element-law}
 use Rattle.blas.specs.Matrix.{Matrix}
 use Rattle.blas.specs.Outcome.{outcome}
 
@@ -31,15 +28,6 @@ module _ (K : Kind) (work lent : List (K .Cell)) where
   answer-done Overlap h = absurd (omega arith)
   answer-done Singular h = absurd (omega arith)
 
-  pub done-work : (a : Answer) → outcome K a work lent .answer ≡ 0 → outcome K a work lent .slab ≡ work
-  done-work a h = ap (λ (b : Answer). outcome K b work lent .slab) (answer-done a h)
-
-pub inside : (v : View) (len : ℕ) → Accepted v len → Inside v len
-inside v len a = record { below = fits→index-lt v len (a .fits) }
-
-pub distinct : (v : View) (len : ℕ) → Accepted v len → overlaps v ≡ false → Distinct v
-distinct v len a h = record { only = no-overlap→index-inj v len (a .fits) h }
-
 -- ---- what the update leaves, of a call that answers 0
 
 module _ {K : Kind} (L : SlabLaws K) (v : View) (mask : Mask) (u : Change K) (slab : List (K .Cell))
@@ -50,7 +38,6 @@ module _ {K : Kind} (L : SlabLaws K) (v : View) (mask : Mask) (u : Change K) (sl
       → (i j : ℕ) → i < v .rows → j < v .cols → mask i j ≡ true → Same K (elem K (outcome K check (update K v mask u slab) slab .slab) v i j) (z i j)
   outcome-same e check done i j p q h =
       subst (λ (x : K .Elem). Same K x (z i j))
-      (sym (ap (λ (t : List (K .Cell)). elem K t v i j) (done-work K (update K v mask u slab) slab check done)
-      ∙ update-shown K L v mask u slab (inside v (K .count slab) accepted) (distinct v (K .count slab) accepted apart) i j p q
+      (sym (element-law K L v mask u slab check (λ c. (accepted .fits, apart)) done .shown i j p q
       ∙ ap (λ (b : Bool). cond b (u i j (elem K slab v i j)) (elem K slab v i j)) h))
       (e i j p q h)

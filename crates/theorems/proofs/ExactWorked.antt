@@ -13,14 +13,15 @@ use Rattle.number.specs.Integers.{Gaussian, integers, floatOfInteger, complexOf
 use Rattle.number.specs.declared.Complex.{Complex}
 use Rattle.view.specs.declared.View.{View}
 use Rattle.view.specs.declared.Side.the-variants.{Left}
-use Rattle.view.specs.declared.UpLo.the-variants.{Lower}
-use Rattle.view.specs.declared.Trans.the-variants.{ConjTrans}
+use Rattle.view.specs.declared.UpLo.the-variants.{Upper, Lower}
+use Rattle.view.specs.declared.Trans.the-variants.{NoTrans, Trans as Transposed, ConjTrans}
+use Rattle.view.specs.declared.Diag.the-variants.{Unit}
 use Rattle.view.specs.Any.{any}
 use Rattle.view.specs.AnyLaws.{none-at, and-left, and-right}
 use Rattle.view.specs.Place.{place, index}
 use Rattle.view.specs.Refusals.{tooLarge, outOfBounds, overlaps, isVector, vecLength}
 use Rattle.view.specs.Judge.{judge}
-use Rattle.view.specs.Checks.{symmShape, trmmShape, vectorOf, gemvShape}
+use Rattle.view.specs.Checks.{symmShape, trmmShape, vectorOf, gemvShape, syrkShape, syr2kShape}
 use Rattle.view.specs.Vector.{vecStride, columnOf}
 use Rattle.slab.specs.Elem.{Lent, lent, elem}
 use Rattle.slab.specs.Update.{Mask, everywhere}
@@ -29,8 +30,11 @@ use Rattle.view.specs.Triangle.{inTriangle}
 use Rattle.blas.specs.Outcome.{Outcome}
 use Rattle.blas.specs.Symm.{symm}
 use Rattle.blas.specs.Gemv.{gemv}
+use Rattle.blas.specs.Her2k.{her2k}
+use Rattle.blas.specs.Trmm.{trmm}
 use Rattle.theorems.specs.Exactness.{Wholes, Whole, Shows, ShowsVector, largestPart, largestScalarPart, realWholes, complexWholes}
-use Rattle.theorems.proofs.ExactInstances.{real64-products, complex-products}
+use Rattle.theorems.specs.ExactTriangles.{readTriangle}
+use Rattle.theorems.proofs.ExactInstances.{real64-products, complex-products, complex-rank, real64-triangles}
 
 -- ---- the conditions as tests
 
@@ -154,3 +158,70 @@ turned-exact =
     .left
     0
     (lit≤ tt)
+
+-- ---- her2k Upper NoTrans on complex, alpha i, beta 0: the old C is NaN
+
+abbrev unread : Lent complex
+unread = lent complex (nan ∷ nan ∷ []) one
+
+abbrev updated : Outcome complex
+updated = her2k complex Upper NoTrans (number (pos 0) (pos 1)) (shown (pos 1) (pos 2)) (shown (pos 3) (pos 0)) (float 0) unread
+
+updated-answer : updated .answer ≡ 0
+unfolding her2k syr2kShape syrkShape judge tooLarge outOfBounds overlaps any place
+updated-answer = refl
+
+-- i (1 + 2i) 3 − i 3 (1 − 2i)
+pub updated-exact : Same complex (elem complex (updated .slab) one 0 0) (number (negsuc 11) (pos 0))
+unfolding any index place sum eq isNan
+updated-exact =
+    complex-rank .her2k Upper NoTrans _ (shown (pos 1) (pos 2)) (shown (pos 3) (pos 0)) (float 0) unread
+    (whole (pos 0) (pos 1))
+    (λ i j. whole (pos 1) (pos 2))
+    (λ i j. whole (pos 3) (pos 0))
+    (pos 0)
+    (λ i j. whole (pos 0) (pos 0))
+    (whole-by complexWholes largestScalarPart _ _ refl)
+    (shows-by complexWholes everywhere (shown (pos 1) (pos 2)) _ refl)
+    (shows-by complexWholes everywhere (shown (pos 3) (pos 0)) _ refl)
+    (record { same = record { same = tt }; small = lit≤ tt })
+    (λ e. absurd (true≢false e))
+    updated-answer
+    .left
+    0
+    0
+    (lit≤ tt)
+    (lit≤ tt)
+    refl
+
+-- ---- trmm Left Lower Trans Unit on f64, alpha 2: the diagonal and the other triangle of A are NaN
+
+abbrev t : Lent real64
+t = lent real64 (nan ∷ nan ∷ float 3 ∷ nan ∷ []) (record { start = 0; rows = 2; cols = 2; rs = pos 2; cs = pos 1 })
+
+abbrev triangled : Outcome real64
+triangled = trmm real64 Left Lower Transposed Unit (float 2) t b
+
+triangled-answer : triangled .answer ≡ 0
+unfolding trmm trmmShape judge tooLarge outOfBounds overlaps any place
+triangled-answer = refl
+
+zt : Matrix integers
+zt = rowsOf (pos 0) 2 (pos 0 ∷ pos 0 ∷ pos 3 ∷ pos 0 ∷ [])
+
+t-shows : Shows realWholes (readTriangle Lower Unit) t zt
+unfolding zt rowsOf any index place eq isNan
+t-shows = shows-by realWholes (readTriangle Lower Unit) t zt refl
+
+-- 2 (5 + 3·7) and 2·7
+pub triangled-exact : Same real64 (elem real64 (triangled .slab) (b .view) 0 0) (float 52) × Same real64 (elem real64 (triangled .slab) (b .view) 1 0) (float 14)
+unfolding zt zb rowsOf sum eq isNan
+triangled-exact =
+    let l =
+    real64-triangles .trmm Left Lower Transposed Unit (float 2) t b (pos 2) zt zb
+    (whole-by realWholes largestScalarPart (float 2) (pos 2) refl)
+    t-shows
+    b-shows
+    triangled-answer
+    in
+    (l .left 0 0 (lit≤ tt) (lit≤ tt) refl, l .left 1 0 (lit≤ tt) (lit≤ tt) refl)

@@ -1,13 +1,19 @@
--- Proofs of the theorems, over any number kind with its laws, then for each kind. Table: document 01's worked examples.
+-- Proofs of the theorems, over any number kind with its laws, then for each kind. Table: document 01's worked examples; Points: calls beside them.
+-- Rings, IntegerRings: what whole numbers have and floats lack.
 -- Exact*: exactness on whole numbers; ExactInstances has the theorems for f64 and complex. Agree*: what a routine can see of a matrix;
 -- AgreeKinds has the theorems for the three kinds.
 pub mod Table
+pub mod Points
+pub mod Rings
+pub mod IntegerRings
 pub mod ExactSums
 pub mod ExactReadings
 pub mod ExactTargets
 pub mod ExactBasis
 pub mod ExactEngine
 pub mod ExactProducts
+pub mod ExactRank
+pub mod ExactTriangles
 pub mod ExactInstances
 pub mod ExactWorked
 pub mod AgreeSums

@@ -1,16 +1,19 @@
--- Document 01's worked examples, one row each with its number, by computing the definitions.
+-- Document 01's worked examples W1 to W14, one row each with its number, by computing the definitions.
 use Prim.Native.Nat.{ℕ}
-use mathlib.Core.Bool.{true, false}
+use mathlib.Core.Bool.{false}
 use mathlib.Core.List.{List, [], _∷_, map}
 use mathlib.Core.Path.{_≡_, refl}
-use lib.Ieee.{Float, binary64, nan, fin, add, sub, mul, neg, eq, ofInt}
+use lib.Ieee.{Float, binary64, nan, add, sub, mul, div, neg, eq, ofInt}
 use lib.IntN.{pos, negsuc}
 use lib.ListN.{getD}
 use Rattle.number.specs.Kind.{Kind, real64, complex}
 use Rattle.view.specs.declared.View.{View}
-use Rattle.view.specs.declared.Side.the-variants.{Left}
+use Rattle.view.specs.declared.Side.the-variants.{Left, Right}
+use Rattle.view.specs.declared.Trans.{Trans}
 use Rattle.view.specs.declared.Trans.the-variants.{NoTrans, ConjTrans}
+use Rattle.view.specs.declared.UpLo.{UpLo}
 use Rattle.view.specs.declared.UpLo.the-variants.{Upper, Lower}
+use Rattle.view.specs.declared.Diag.the-variants.{NonUnit, Unit}
 use Rattle.view.specs.Any.{any}
 use Rattle.view.specs.Place.{place, index}
 use Rattle.view.specs.Refusals.{tooLarge, outOfBounds, overlaps, isVector}
@@ -19,32 +22,36 @@ use Rattle.view.specs.Judge.{judge}
 use Rattle.view.specs.Checks.{vectorOf, gemvShape, trmvShape, gemmShape, trmmShape, symmShape, syrkShape}
 use Rattle.slab.specs.Elem.{Lent, lent}
 use Rattle.slab.specs.Update.{step, row, rows}
-use Rattle.blas.specs.Matrix.{sum}
+use Rattle.blas.specs.Matrix.{sum, sumOver}
 use Rattle.blas.specs.Outcome.{Outcome}
 use Rattle.blas.specs.Gemv.{gemv}
 use Rattle.blas.specs.Gemm.{gemm}
 use Rattle.blas.specs.Symm.{symm}
 use Rattle.blas.specs.Syrk.{syrk}
 use Rattle.blas.specs.Her.{her}
+use Rattle.blas.specs.Substitution.{firstAt, less, solveOne, solved, substituted}
+use Rattle.blas.specs.Trmv.{trmv}
+use Rattle.blas.specs.Trsv.{trsv}
+use Rattle.blas.specs.Trsm.{trsm}
 
 -- ---- how the rows write numbers, matrices and outcomes
 
 -- a whole number, and a negative one
-abbrev f : ℕ → Float
+abbrev pub f : ℕ → Float
 f n = ofInt binary64 (pos n)
 
-abbrev minus : ℕ → Float
+abbrev pub minus : ℕ → Float
 minus n = neg (f n)
 
 -- an m by n matrix by rows from the slab's start
-abbrev byRows : ℕ → ℕ → List Float → Lent real64
+abbrev pub byRows : ℕ → ℕ → List Float → Lent real64
 byRows m n s = lent real64 s (record { start = 0; rows = m; cols = n; rs = pos n; cs = pos 1 })
 
 -- one complex number, as a 1 by 1 matrix
-abbrev single : Float → Float → Lent complex
+abbrev pub single : Float → Float → Lent complex
 single x y = lent complex (x ∷ y ∷ []) (record { start = 0; rows = 1; cols = 1; rs = pos 1; cs = pos 1 })
 
-abbrev outcomeOf : (K : Kind) → ℕ → List (K .Cell) → Outcome K
+abbrev pub outcomeOf : (K : Kind) → ℕ → List (K .Cell) → Outcome K
 outcomeOf K n s = record { answer = n; slab = s }
 
 -- A = [[1,2],[3,4]]
@@ -109,6 +116,36 @@ W6 = refl
 pub W7 : syrk real64 Upper NoTrans (f 1) (byRows 2 1 (f 1 ∷ f 2 ∷ [])) (f 0) (byRows 2 2 (f 9 ∷ f 9 ∷ f 9 ∷ f 9 ∷ [])) ≡ outcomeOf real64 0 (f 1 ∷ f 2 ∷ f 9 ∷ f 4 ∷ [])
 unfolding syrk syrkShape judge tooLarge outOfBounds overlaps any place index rows row step sum add mul eq ofInt
 W7 = refl
+
+-- ---- W8: trmv Upper NoTrans NonUnit, [[2,3],[NaN,4]], x (1,1): (5,4)
+
+pub W8 : trmv real64 Upper NoTrans NonUnit (byRows 2 2 (f 2 ∷ f 3 ∷ nan ∷ f 4 ∷ [])) (byRows 2 1 (f 1 ∷ f 1 ∷ [])) ≡ outcomeOf real64 0 (f 5 ∷ f 4 ∷ [])
+unfolding trmv trmvShape vectorOf isVector vecStride judge tooLarge outOfBounds overlaps any place index rows row step sumOver add mul ofInt
+W8 = refl
+
+-- ---- W9: trsv Lower NoTrans Unit, [[0,7],[3,0]], x (2,7): (2,1)
+
+pub W9 : trsv real64 Lower NoTrans Unit (byRows 2 2 (f 0 ∷ f 7 ∷ f 3 ∷ f 0 ∷ [])) (byRows 2 1 (f 2 ∷ f 7 ∷ [])) ≡ outcomeOf real64 0 (f 2 ∷ f 1 ∷ [])
+unfolding trsv trmvShape vectorOf isVector vecStride judge tooLarge outOfBounds overlaps any place index firstAt less solveOne solved substituted sub mul ofInt
+W9 = refl
+
+-- ---- W10: trsv Upper NoTrans NonUnit, [[0,1],[9,2]], x (5,4): refusal 5, x is (5,2)
+
+pub W10 : trsv real64 Upper NoTrans NonUnit (byRows 2 2 (f 0 ∷ f 1 ∷ f 9 ∷ f 2 ∷ [])) (byRows 2 1 (f 5 ∷ f 4 ∷ [])) ≡ outcomeOf real64 5 (f 5 ∷ f 2 ∷ [])
+unfolding trsv trmvShape vectorOf isVector vecStride judge tooLarge outOfBounds overlaps any place index firstAt less solveOne solved substituted sub mul div eq ofInt
+W10 = refl
+
+-- ---- W11: trsm Right Upper NoTrans NonUnit, alpha 2, [[1,1],[0,0]], B [[3,4]]: refusal 5, B is [[6,8]]
+
+pub W11 : trsm real64 Right Upper NoTrans NonUnit (f 2) (byRows 2 2 (f 1 ∷ f 1 ∷ f 0 ∷ f 0 ∷ [])) (byRows 1 2 (f 3 ∷ f 4 ∷ [])) ≡ outcomeOf real64 5 (f 6 ∷ f 8 ∷ [])
+unfolding trsm trmmShape judge tooLarge outOfBounds overlaps any place index rows row step firstAt less solveOne solved substituted sub mul div eq ofInt
+W11 = refl
+
+-- ---- W12: trsm Left NonUnit, A 2 by 2 all zero, B 2 by 0: answer 0, whatever the triangle, the transposition and alpha
+
+pub W12 : (uplo : UpLo) (trans : Trans) (alpha : Float) → trsm real64 Left uplo trans NonUnit alpha (byRows 2 2 (f 0 ∷ f 0 ∷ f 0 ∷ f 0 ∷ [])) (byRows 2 0 []) ≡ outcomeOf real64 0 []
+unfolding trsm trmmShape judge tooLarge outOfBounds overlaps any place index rows row step firstAt less solveOne solved substituted sub mul div eq ofInt
+W12 uplo trans alpha = refl
 
 -- ---- W13: complex gemv ConjTrans, 1 by 1, A (1,2), x (3,0), alpha 1, beta 0: (3,−6)
 
