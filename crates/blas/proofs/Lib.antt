@@ -4,3 +4,4 @@ pub mod OutcomeLaws
 pub mod Elements
 pub mod OverLaws
 pub mod SubstitutionLaws
+pub mod OpLaws

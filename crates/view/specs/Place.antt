@@ -1,7 +1,10 @@
 -- Where a view's elements are in its slab (document 01, "Numbers and views").
 use Prim.Native.Nat.{ℕ}
 use lib.IntN.{ℤ, pos, _+ℤ_, _*ℤ_, natAbs}
+use mathlib.Core.Bool.{Bool, true, false}
 use Rattle.view.specs.declared.View.{View}
+use Rattle.view.specs.declared.Trans.{Trans}
+use Rattle.view.specs.declared.Trans.the-variants.{NoTrans, Trans as Transposed, ConjTrans}
 
 -- start + r · row stride + c · column stride, over the integers
 unfoldable pub place : View → ℕ → ℕ → ℤ
@@ -14,3 +17,15 @@ index v r c = natAbs (place v r c)
 -- the same elements with rows and columns exchanged
 abbrev pub transposedOf : View → View
 transposedOf v = record { start = v .start; rows = v .cols; cols = v .rows; rs = v .cs; cs = v .rs }
+
+-- op(A)'s elements, not conjugated
+abbrev pub opViewOf : Trans → View → View
+opViewOf NoTrans v = v
+opViewOf Transposed v = transposedOf v
+opViewOf ConjTrans v = transposedOf v
+
+-- whether op conjugates
+abbrev pub isConj : Trans → Bool
+isConj NoTrans = false
+isConj Transposed = false
+isConj ConjTrans = true

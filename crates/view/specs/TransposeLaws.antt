@@ -3,7 +3,9 @@ use mathlib.Core.Path.{_≡_, sym, ap, _∙_}
 use Prim.Native.Nat.{ℕ}
 use lib.IntN.{ℤ, pos, natAbs, _+ℤ_, _*ℤ_, +ℤ-assoc, +ℤ-comm}
 use Rattle.view.specs.declared.View.{View}
-use Rattle.view.specs.Place.{place, index, transposedOf}
+use Rattle.view.specs.declared.Trans.{Trans}
+use Rattle.view.specs.declared.Trans.the-variants.{NoTrans, Trans as Transposed, ConjTrans}
+use Rattle.view.specs.Place.{place, index, transposedOf, opViewOf}
 use Rattle.view.specs.Refusals.{outside, Fits}
 use Rattle.view.specs.Steps.{Accepted}
 use Rattle.view.specs.PlaceLaws.{fits-at, at-fits}
@@ -25,3 +27,8 @@ transposed-fits v len f =
 
 pub transposed-accepted : (v : View) (len : ℕ) → Accepted v len → Accepted (transposedOf v) len
 transposed-accepted v len a = record { rows-le = a .cols-le; cols-le = a .rows-le; fits = transposed-fits v len (a .fits) }
+
+pub op-accepted : (t : Trans) (v : View) (len : ℕ) → Accepted v len → Accepted (opViewOf t v) len
+op-accepted NoTrans v len a = a
+op-accepted Transposed v len a = transposed-accepted v len a
+op-accepted ConjTrans v len a = transposed-accepted v len a

@@ -5,7 +5,7 @@ ghost use Prim.Native.Nat.{_<_, _^_};
 ghost use lib.IntN.{pos, _*ℤ_};
 ghost use mir.Syntax.{w64};
 ghost use mir.Val.{SFits};
-ghost use Rattle.view.specs.Place.{index, transposedOf};
+ghost use Rattle.view.specs.Place.{index, transposedOf, opViewOf, isConj};
 ghost use Rattle.view.specs.Refusals.{isVector, vecLength};
 ghost use Rattle.view.specs.Vector.{vecCoord, columnOf};
 ghost use Rattle.view.specs.Triangle.{inTriangle};
@@ -153,6 +153,28 @@ pub fn transposed(v: View) -> View
         cols: v.rows,
         rs: v.cs,
         cs: v.rs,
+    }
+}
+
+// op(A)'s elements, not conjugated.
+pub fn op_view(t: Trans, v: View) -> View
+    ensures { λ r. ⌜ r ≡ opViewOf t v ⌝ }
+{
+    match t {
+        Trans::NoTrans => v,
+        Trans::Trans => transposed(v),
+        Trans::ConjTrans => transposed(v),
+    }
+}
+
+// Whether op conjugates.
+pub fn conjugates(t: Trans) -> bool
+    ensures { λ r. ⌜ r ≡ isConj t ⌝ }
+{
+    match t {
+        Trans::NoTrans => false,
+        Trans::Trans => false,
+        Trans::ConjTrans => true,
     }
 }
 
