@@ -1,4 +1,5 @@
 -- The laws of plans, over any number kind, and why a call that its check passes is ready.
 pub mod Laws
+pub mod RunLaws
 pub mod Ready
 pub mod Kernels

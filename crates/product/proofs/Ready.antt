@@ -1,8 +1,8 @@
 -- A call that its check passes is ready: the plan reads and writes inside the slabs.
 use Prim.Native.Nat.{ℕ, _<_}
-use mathlib.Core.Bool.{Bool, true, false, cond}
+use mathlib.Core.Bool.{Bool, true, false}
 use mathlib.Core.List.{List, [], _∷_}
-use mathlib.Core.Path.{_≡_, refl, sym, subst}
+use mathlib.Core.Path.{_≡_, refl}
 use native.Mathlib.Omega.{arith}
 use Rattle.view.specs.declared.View.{View}
 use Rattle.view.specs.declared.Answer.the-variants.{Done}
@@ -18,41 +18,38 @@ use Rattle.view.specs.Checks.{opRows, opCols, gemvShape, hemvShape, gemmShape, 
 use Rattle.view.specs.JudgeLaws.{Passed, gemv-sizes, hemv-sizes, gemm-sizes, symm-sizes, syrk-sizes}
 use Rattle.view.specs.Vector.{columnOf}
 use Rattle.view.specs.VectorLaws.{column-accepted}
-use Rattle.view.specs.Triangle.{inTriangle}
 use Rattle.blas.specs.Syrk.{syrkLeft, syrkRight}
 use Rattle.blas.specs.Herk.{herkLeft, herkRight}
 use Rattle.product.specs.declared.plan.Reading.{Reading}
 use Rattle.product.specs.declared.plan.Reading.the-variants.{Op, Symmetric, Hermitian}
-use Rattle.product.specs.declared.plan.Spot.{Spot}
 use Rattle.product.specs.declared.plan.Plan.{Plan}
-use Rattle.product.specs.Plan.{spot, spotOf, Readable, Factors, Ready}
+use Rattle.product.specs.Plan.{turnOf, turnedView, Readable, Factors, Ready}
 use Rattle.product.specs.Plans.{gemmPlan, gemvPlan, hemvPlan, sidedPlan, syrkPlan, herkPlan, ReadySided}
 
 -- ---- readings
 
 pub op-readable : (t : Trans) (v : View) (len i j : ℕ) → Accepted v len → i < opRows t v → j < opCols t v → Readable (Op t) v len i j
-unfolding spotOf
+unfolding turnOf
 op-readable NoTrans v len i j a p q = record { fits = a; row = p; col = q }
-op-readable Transposed v len i j a p q = record { fits = a; row = q; col = p }
-op-readable ConjTrans v len i j a p q = record { fits = a; row = q; col = p }
+op-readable Transposed v len i j a p q = record { fits = a; row = p; col = q }
+op-readable ConjTrans v len i j a p q = record { fits = a; row = p; col = q }
 
 -- in a square matrix an element and its mirror image are both inside
 module _ (v : View) (len n i j : ℕ) (a : Accepted v len) (r : v .rows ≡ n) (c : v .cols ≡ n) (p : i < n) (q : j < n) where
-  inside : (b conjugated : Bool) (s : Spot) → s ≡ cond b (spot i j false) (spot j i conjugated) → (s .row < v .rows) × (s .col < v .cols)
-  inside true conjugated s e = rw e (omega arith, omega arith)
-  inside false conjugated s e = rw e (omega arith, omega arith)
+  square-readable : (m : Reading) → Readable m v len i j
+  square-readable m =
+      let h = inside (turnOf m i j .transposed) in
+      record { fits = a; row = h .0; col = h .1 }
+    where
+      inside : (t : Bool) → (i < turnedView t v .rows) × (j < turnedView t v .cols)
+      inside true = (omega arith, omega arith)
+      inside false = (omega arith, omega arith)
 
   pub symmetric-readable : (uplo : UpLo) → Readable (Symmetric uplo) v len i j
-  unfolding spotOf
-  symmetric-readable uplo =
-      let h = inside (inTriangle uplo i j) false (spotOf (Symmetric uplo) i j) refl in
-      record { fits = a; row = h .0; col = h .1 }
+  symmetric-readable uplo = square-readable (Symmetric uplo)
 
   pub hermitian-readable : (uplo : UpLo) → Readable (Hermitian uplo) v len i j
-  unfolding spotOf
-  hermitian-readable uplo =
-      let h = inside (inTriangle uplo i j) true (spotOf (Hermitian uplo) i j) refl in
-      record { fits = a; row = h .0; col = h .1 }
+  hermitian-readable uplo = square-readable (Hermitian uplo)
 
 -- ---- the routines
 

@@ -4,9 +4,10 @@ use mathlib.Core.Bool.{Bool, true, false, cond}
 use mathlib.Core.List.{List}
 use Rattle.number.specs.Kind.{Kind}
 use Rattle.view.specs.declared.View.{View}
+use Rattle.view.specs.declared.Trans.{Trans}
 use Rattle.view.specs.declared.Trans.the-variants.{NoTrans, Trans as Transposed, ConjTrans}
 use Rattle.view.specs.declared.UpLo.{UpLo}
-use Rattle.view.specs.Place.{index}
+use Rattle.view.specs.Place.{index, transposedOf}
 use Rattle.view.specs.Steps.{Accepted}
 use Rattle.slab.specs.Elem.{elem}
 use Rattle.slab.specs.Update.{everywhere, update}
@@ -17,7 +18,7 @@ use Rattle.product.specs.declared.plan.Reading.{Reading}
 use Rattle.product.specs.declared.plan.Reading.the-variants.{Op, Symmetric, Hermitian}
 use Rattle.product.specs.declared.plan.Mask.{Mask}
 use Rattle.product.specs.declared.plan.Mask.the-variants.{Everywhere, Triangle}
-use Rattle.product.specs.declared.plan.Spot.{Spot}
+use Rattle.product.specs.declared.plan.Turn.{Turn}
 use Rattle.product.specs.declared.plan.Plan.{Plan}
 
 -- an operand as the plan reads it
@@ -31,21 +32,27 @@ abbrev pub admits : Mask → Update.Mask
 admits Everywhere i j = everywhere i j
 admits (Triangle uplo) i j = inTriangle uplo i j
 
--- ---- where an element of an operand is read
+-- ---- how an element of an operand is read
 
-abbrev pub spot : ℕ → ℕ → Bool → Spot
-spot r c conjugated = record { row = r; col = c; conjugated = conjugated }
+abbrev pub turn : Bool → Bool → Turn
+turn transposed conjugated = record { transposed = transposed; conjugated = conjugated }
 
--- (i, j) in the named triangle, else its mirror image
-abbrev pub mirrored : UpLo → ℕ → ℕ → Bool → Spot
-mirrored uplo i j conjugated = cond (inTriangle uplo i j) (spot i j false) (spot j i conjugated)
+-- in the named triangle as it stands, else its mirror image
+abbrev pub mirrored : Bool → Bool → Turn
+mirrored conjugated named = cond named (turn false false) (turn true conjugated)
 
-unfoldable pub spotOf : Reading → ℕ → ℕ → Spot
-spotOf (Op NoTrans) i j = spot i j false
-spotOf (Op Transposed) i j = spot j i false
-spotOf (Op ConjTrans) i j = spot j i true
-spotOf (Symmetric uplo) i j = mirrored uplo i j false
-spotOf (Hermitian uplo) i j = mirrored uplo i j true
+abbrev pub opTurn : Trans → Turn
+opTurn NoTrans = turn false false
+opTurn Transposed = turn true false
+opTurn ConjTrans = turn true true
+
+unfoldable pub turnOf : Reading → ℕ → ℕ → Turn
+turnOf (Op t) i j = opTurn t
+turnOf (Symmetric uplo) i j = mirrored false (inTriangle uplo i j)
+turnOf (Hermitian uplo) i j = mirrored true (inTriangle uplo i j)
+
+abbrev pub turnedView : Bool → View → View
+turnedView t v = cond t (transposedOf v) v
 
 -- ---- what a plan does
 
@@ -82,8 +89,8 @@ module _ (K : Kind) (plan : Plan) (byBeta byAlpha : K .Elem → K .Elem) (a b : 
 -- element (i, j) of an operand is inside its slab
 pub record Readable (m : Reading) (v : View) (len i j : ℕ) : Type 0 where
   pub fits : Accepted v len
-  pub row : spotOf m i j .row < v .rows
-  pub col : spotOf m i j .col < v .cols
+  pub row : i < turnedView (turnOf m i j .transposed) v .rows
+  pub col : j < turnedView (turnOf m i j .transposed) v .cols
 
 -- row i of the left operand and column j of the right one are, with n elements each
 pub record Factors (l : Reading) (va : View) (la : ℕ) (r : Reading) (vb : View) (lb n i j : ℕ) : Type 0 where

@@ -3,7 +3,7 @@
 ghost use mathlib.Core.Path.{_≡_};
 ghost use Rattle.number.specs.Kind.{complex};
 ghost use Rattle.number.specs.Scaling.{scaleByComplex, times};
-ghost use Rattle.slab.specs.Elem.{elem, lent};
+ghost use Rattle.slab.specs.Elem.{elem, lent, Shows};
 ghost use Rattle.blas.specs.Matrix.{dot as dotOf};
 ghost use Rattle.blas.specs.Outcome.{Gives};
 ghost use Rattle.blas.specs.Gemm;
@@ -14,11 +14,13 @@ ghost use Rattle.blas.specs.Herk;
 ghost use Rattle.blas.specs.Symm;
 ghost use Rattle.blas.specs.Syrk;
 ghost use Rattle.product.specs.Plans.{ReadySided, sidedWork};
-ghost use Rattle.product.specs.Plan.{reading, planPut, planStep, planRow, work, Readable, Factors, Ready, ReadyAt, ReadyRow};
+ghost use Rattle.product.specs.Plan.{reading, planPut, planStep, planRow, work, Factors, Ready, ReadyAt, ReadyRow};
+ghost use Rattle.product.specs.Runs.{more, Spans, Alike, plain};
 use crate::plan::Plan;
 use crate::plan::Reading;
 use crate::plan::admitted;
-use crate::plan::locate;
+use crate::plan::turn_at;
+use crate::plan::turned;
 use crate::routines::gemm_plan;
 use crate::routines::gemv_plan;
 use crate::routines::hemv_plan;
@@ -26,9 +28,11 @@ use crate::routines::herk_plan;
 use crate::routines::left_plan;
 use crate::routines::right_plan;
 use crate::routines::syrk_plan;
+use crate::runs::alike;
 use number::BetaComplex;
 use number::Complex;
 use number::Multiplier;
+use slab::elem_complex;
 use slab::get_complex;
 use slab::put_complex;
 use view::Answer;
@@ -48,14 +52,76 @@ use view::passed;
 use view::place;
 use view::rows;
 
-// Element (i, j) of an operand.
-fn read(m: Reading, s: &[f64], v: View, i: usize, j: usize) -> Complex
-    requires { ⌜ Readable m v (complex .count (now s)) i j ⌝ }
-    ensures { λ r. ⌜ r ≡ reading complex m (elem complex (now (s .entry)) v) i j ⌝ }
+// Element (i, j) of a view, conjugated or not.
+fn at(conjugated: bool, s: &[f64], v: View, i: usize, j: usize) -> Complex
+    requires { ⌜ Shows v (complex .count (now s)) i j ⌝ }
+    ensures { λ r. ⌜ r ≡ plain complex conjugated (now (s .entry)) v i j ⌝ }
 {
-    let at = locate(m, i, j);
-    let x = get_complex(s, place(v, at.row, at.col));
-    if at.conjugated { x.conj() } else { x }
+    let x = elem_complex(s, v, i, j);
+    if conjugated { x.conj() } else { x }
+}
+
+// The sum with n products more: row i of one view by column j of another, from `from` on.
+fn add_run(
+    ca: bool,
+    a: &[f64],
+    va: View,
+    cb: bool,
+    b: &[f64],
+    vb: View,
+    i: usize,
+    j: usize,
+    from: usize,
+    n: usize,
+    sum: Complex,
+) -> Complex
+    requires { ⌜ Spans va (complex .count (now a)) vb (complex .count (now b)) i j from n ⌝ }
+    ensures { λ r. ⌜ r ≡ more complex (sum) (λ p. complex .mul (plain complex ca (now (a .entry)) va i p) (plain complex cb (now (b .entry)) vb p j)) from n ⌝ }
+{
+    let mut total = sum;
+    let mut k = 0;
+    while k < n {
+        let p = from + k;
+        total = total.add(at(ca, a, va, i, p).mul(at(cb, b, vb, p, j)));
+        k += 1;
+    }
+    total
+}
+
+// The same of two operands, whose terms are read alike.
+fn add_alike(
+    l: Reading,
+    a: &[f64],
+    va: View,
+    r: Reading,
+    b: &[f64],
+    vb: View,
+    i: usize,
+    j: usize,
+    from: usize,
+    n: usize,
+    sum: Complex,
+) -> Complex
+    requires { ⌜ Alike l va (complex .count (now a)) r vb (complex .count (now b)) i j from n ⌝ }
+    ensures { λ t. ⌜ t ≡ more complex (sum) (λ p. complex .mul (reading complex l (elem complex (now (a .entry)) va) i p) (reading complex r (elem complex (now (b .entry)) vb) p j)) from n ⌝ }
+{
+    let tl = turn_at(l, i, from);
+    let tr = turn_at(r, from, j);
+    let left = turned(tl.transposed, va);
+    let right = turned(tr.transposed, vb);
+    add_run(
+        tl.conjugated,
+        a,
+        left,
+        tr.conjugated,
+        b,
+        right,
+        i,
+        j,
+        from,
+        n,
+        sum,
+    )
 }
 
 // Element (i, j) of the product of two operands, of which n elements each go into it.
@@ -76,8 +142,9 @@ fn dot(
     let mut sum = Complex::ZERO;
     let mut p = 0;
     while p < n {
-        sum = sum.add(read(l, a, va, i, p).mul(read(r, b, vb, p, j)));
-        p += 1;
+        let terms = alike(l, r, i, j, p, n);
+        sum = add_alike(l, a, va, r, b, vb, i, j, p, terms, sum);
+        p += terms;
     }
     sum
 }

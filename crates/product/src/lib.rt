@@ -6,8 +6,9 @@ mod plan;
 pub mod real32;
 pub mod real64;
 mod routines;
+mod runs;
 
 pub use plan::Mask;
 pub use plan::Plan;
 pub use plan::Reading;
-pub use plan::Spot;
+pub use plan::Turn;

@@ -2,11 +2,12 @@
 
 ghost use mathlib.Core.Path.{_≡_};
 ghost use Rattle.view.specs.Triangle.{inTriangle};
-ghost use Rattle.product.specs.Plan.{admits, mirrored, spotOf};
+ghost use Rattle.product.specs.Plan.{admits, mirrored, opTurn, turnOf, turnedView};
 use view::Trans;
 use view::UpLo;
 use view::View;
 use view::in_triangle;
+use view::transposed;
 
 // How an operand is read: as op(A), or as the symmetric or Hermitian matrix of its named triangle.
 pub enum Reading {
@@ -21,10 +22,9 @@ pub enum Mask {
     Triangle(UpLo),
 }
 
-// Where an element is read, and whether it is conjugated.
-pub struct Spot {
-    pub row: usize,
-    pub col: usize,
+// Whether an element is read with row and column exchanged, and whether it is conjugated.
+pub struct Turn {
+    pub transposed: bool,
     pub conjugated: bool,
 }
 
@@ -48,53 +48,55 @@ pub fn admitted(mask: Mask, i: usize, j: usize) -> bool
     }
 }
 
-fn mirror(uplo: UpLo, i: usize, j: usize, conjugated: bool) -> Spot
-    ensures { λ r. ⌜ r ≡ mirrored uplo i j conjugated ⌝ }
+fn mirror(uplo: UpLo, i: usize, j: usize, conjugated: bool) -> Turn
+    ensures { λ r. ⌜ r ≡ mirrored conjugated (inTriangle uplo i j) ⌝ }
 {
     if in_triangle(uplo, i, j) {
-        Spot {
-            row: i,
-            col: j,
+        Turn {
+            transposed: false,
             conjugated: false,
         }
     } else {
-        Spot {
-            row: j,
-            col: i,
+        Turn {
+            transposed: true,
             conjugated: conjugated,
         }
     }
 }
 
-fn transpose(t: Trans, i: usize, j: usize) -> Spot
-    ensures { λ r. ⌜ r ≡ spotOf (Reading.Op t) i j ⌝ }
+fn op_turn(t: Trans) -> Turn
+    ensures { λ r. ⌜ r ≡ opTurn t ⌝ }
 {
     match t {
-        Trans::NoTrans => Spot {
-            row: i,
-            col: j,
+        Trans::NoTrans => Turn {
+            transposed: false,
             conjugated: false,
         },
-        Trans::Trans => Spot {
-            row: j,
-            col: i,
+        Trans::Trans => Turn {
+            transposed: true,
             conjugated: false,
         },
-        Trans::ConjTrans => Spot {
-            row: j,
-            col: i,
+        Trans::ConjTrans => Turn {
+            transposed: true,
             conjugated: true,
         },
     }
 }
 
-// Where element (i, j) of an operand is read.
-pub fn locate(m: Reading, i: usize, j: usize) -> Spot
-    ensures { λ r. ⌜ r ≡ spotOf m i j ⌝ }
+// How element (i, j) of an operand is read.
+pub fn turn_at(m: Reading, i: usize, j: usize) -> Turn
+    ensures { λ r. ⌜ r ≡ turnOf m i j ⌝ }
 {
     match m {
-        Reading::Op(t) => transpose(t, i, j),
+        Reading::Op(t) => op_turn(t),
         Reading::Symmetric(uplo) => mirror(uplo, i, j, false),
         Reading::Hermitian(uplo) => mirror(uplo, i, j, true),
     }
+}
+
+// The view through which it is read.
+pub fn turned(t: bool, v: View) -> View
+    ensures { λ r. ⌜ r ≡ turnedView t v ⌝ }
+{
+    if t { transposed(v) } else { v }
 }

@@ -14,11 +14,13 @@ ghost use Rattle.blas.specs.Herk;
 ghost use Rattle.blas.specs.Symm;
 ghost use Rattle.blas.specs.Syrk;
 ghost use Rattle.product.specs.Plans.{ReadySided, sidedWork};
-ghost use Rattle.product.specs.Plan.{reading, planPut, planStep, planRow, work, Readable, Factors, Ready, ReadyAt, ReadyRow};
+ghost use Rattle.product.specs.Plan.{reading, planPut, planStep, planRow, work, Factors, Ready, ReadyAt, ReadyRow};
+ghost use Rattle.product.specs.Runs.{more, Spans, Alike};
 use crate::plan::Plan;
 use crate::plan::Reading;
 use crate::plan::admitted;
-use crate::plan::locate;
+use crate::plan::turn_at;
+use crate::plan::turned;
 use crate::routines::gemm_plan;
 use crate::routines::gemv_plan;
 use crate::routines::hemv_plan;
@@ -26,8 +28,10 @@ use crate::routines::herk_plan;
 use crate::routines::left_plan;
 use crate::routines::right_plan;
 use crate::routines::syrk_plan;
+use crate::runs::alike;
 use number::Beta32;
 use number::Real32;
+use slab::elem32;
 use slab::get32;
 use slab::put32;
 use view::Answer;
@@ -47,13 +51,53 @@ use view::passed;
 use view::place;
 use view::rows;
 
-// Element (i, j) of an operand.
-fn read(m: Reading, s: &[f32], v: View, i: usize, j: usize) -> Real32
-    requires { ⌜ Readable m v (real32 .count (now s)) i j ⌝ }
-    ensures { λ r. ⌜ r .0 ≡ reading real32 m (elem real32 (now (s .entry)) v) i j ⌝ }
+// The sum with n products more: row i of one view by column j of another, from `from` on.
+fn add_run(
+    a: &[f32],
+    va: View,
+    b: &[f32],
+    vb: View,
+    i: usize,
+    j: usize,
+    from: usize,
+    n: usize,
+    sum: Real32,
+) -> Real32
+    requires { ⌜ Spans va (real32 .count (now a)) vb (real32 .count (now b)) i j from n ⌝ }
+    ensures { λ r. ⌜ r .0 ≡ more real32 (sum .0) (λ p. real32 .mul (elem real32 (now (a .entry)) va i p) (elem real32 (now (b .entry)) vb p j)) from n ⌝ }
 {
-    let at = locate(m, i, j);
-    get32(s, place(v, at.row, at.col))
+    let mut total = sum;
+    let mut k = 0;
+    while k < n {
+        let p = from + k;
+        total = total.add(elem32(a, va, i, p).mul(elem32(b, vb, p, j)));
+        k += 1;
+    }
+    total
+}
+
+// The same of two operands, whose terms are read alike.
+fn add_alike(
+    l: Reading,
+    a: &[f32],
+    va: View,
+    r: Reading,
+    b: &[f32],
+    vb: View,
+    i: usize,
+    j: usize,
+    from: usize,
+    n: usize,
+    sum: Real32,
+) -> Real32
+    requires { ⌜ Alike l va (real32 .count (now a)) r vb (real32 .count (now b)) i j from n ⌝ }
+    ensures { λ t. ⌜ t .0 ≡ more real32 (sum .0) (λ p. real32 .mul (reading real32 l (elem real32 (now (a .entry)) va) i p) (reading real32 r (elem real32 (now (b .entry)) vb) p j)) from n ⌝ }
+{
+    let tl = turn_at(l, i, from);
+    let tr = turn_at(r, from, j);
+    let left = turned(tl.transposed, va);
+    let right = turned(tr.transposed, vb);
+    add_run(a, left, b, right, i, j, from, n, sum)
 }
 
 // Element (i, j) of the product of two operands, of which n elements each go into it.
@@ -74,8 +118,9 @@ fn dot(
     let mut sum = Real32::ZERO;
     let mut p = 0;
     while p < n {
-        sum = sum.add(read(l, a, va, i, p).mul(read(r, b, vb, p, j)));
-        p += 1;
+        let terms = alike(l, r, i, j, p, n);
+        sum = add_alike(l, a, va, r, b, vb, i, j, p, terms, sum);
+        p += terms;
     }
     sum
 }

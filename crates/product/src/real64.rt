@@ -14,11 +14,13 @@ ghost use Rattle.blas.specs.Herk;
 ghost use Rattle.blas.specs.Symm;
 ghost use Rattle.blas.specs.Syrk;
 ghost use Rattle.product.specs.Plans.{ReadySided, sidedWork};
-ghost use Rattle.product.specs.Plan.{reading, planPut, planStep, planRow, work, Readable, Factors, Ready, ReadyAt, ReadyRow};
+ghost use Rattle.product.specs.Plan.{reading, planPut, planStep, planRow, work, Factors, Ready, ReadyAt, ReadyRow};
+ghost use Rattle.product.specs.Runs.{more, Spans, Alike};
 use crate::plan::Plan;
 use crate::plan::Reading;
 use crate::plan::admitted;
-use crate::plan::locate;
+use crate::plan::turn_at;
+use crate::plan::turned;
 use crate::routines::gemm_plan;
 use crate::routines::gemv_plan;
 use crate::routines::hemv_plan;
@@ -26,8 +28,10 @@ use crate::routines::herk_plan;
 use crate::routines::left_plan;
 use crate::routines::right_plan;
 use crate::routines::syrk_plan;
+use crate::runs::alike;
 use number::Beta64;
 use number::Real64;
+use slab::elem64;
 use slab::get64;
 use slab::put64;
 use view::Answer;
@@ -47,13 +51,53 @@ use view::passed;
 use view::place;
 use view::rows;
 
-// Element (i, j) of an operand.
-fn read(m: Reading, s: &[f64], v: View, i: usize, j: usize) -> Real64
-    requires { ⌜ Readable m v (real64 .count (now s)) i j ⌝ }
-    ensures { λ r. ⌜ r .0 ≡ reading real64 m (elem real64 (now (s .entry)) v) i j ⌝ }
+// The sum with n products more: row i of one view by column j of another, from `from` on.
+fn add_run(
+    a: &[f64],
+    va: View,
+    b: &[f64],
+    vb: View,
+    i: usize,
+    j: usize,
+    from: usize,
+    n: usize,
+    sum: Real64,
+) -> Real64
+    requires { ⌜ Spans va (real64 .count (now a)) vb (real64 .count (now b)) i j from n ⌝ }
+    ensures { λ r. ⌜ r .0 ≡ more real64 (sum .0) (λ p. real64 .mul (elem real64 (now (a .entry)) va i p) (elem real64 (now (b .entry)) vb p j)) from n ⌝ }
 {
-    let at = locate(m, i, j);
-    get64(s, place(v, at.row, at.col))
+    let mut total = sum;
+    let mut k = 0;
+    while k < n {
+        let p = from + k;
+        total = total.add(elem64(a, va, i, p).mul(elem64(b, vb, p, j)));
+        k += 1;
+    }
+    total
+}
+
+// The same of two operands, whose terms are read alike.
+fn add_alike(
+    l: Reading,
+    a: &[f64],
+    va: View,
+    r: Reading,
+    b: &[f64],
+    vb: View,
+    i: usize,
+    j: usize,
+    from: usize,
+    n: usize,
+    sum: Real64,
+) -> Real64
+    requires { ⌜ Alike l va (real64 .count (now a)) r vb (real64 .count (now b)) i j from n ⌝ }
+    ensures { λ t. ⌜ t .0 ≡ more real64 (sum .0) (λ p. real64 .mul (reading real64 l (elem real64 (now (a .entry)) va) i p) (reading real64 r (elem real64 (now (b .entry)) vb) p j)) from n ⌝ }
+{
+    let tl = turn_at(l, i, from);
+    let tr = turn_at(r, from, j);
+    let left = turned(tl.transposed, va);
+    let right = turned(tr.transposed, vb);
+    add_run(a, left, b, right, i, j, from, n, sum)
 }
 
 // Element (i, j) of the product of two operands, of which n elements each go into it.
@@ -74,8 +118,9 @@ fn dot(
     let mut sum = Real64::ZERO;
     let mut p = 0;
     while p < n {
-        sum = sum.add(read(l, a, va, i, p).mul(read(r, b, vb, p, j)));
-        p += 1;
+        let terms = alike(l, r, i, j, p, n);
+        sum = add_alike(l, a, va, r, b, vb, i, j, p, terms, sum);
+        p += terms;
     }
     sum
 }

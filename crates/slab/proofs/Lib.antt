@@ -1,3 +1,4 @@
 -- The laws of the fold that replaces shown elements.
 pub mod UpdateLaws
 pub mod LoopLaws
+pub mod Shown

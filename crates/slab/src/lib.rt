@@ -3,9 +3,12 @@
 ghost use mathlib.Core.Path.{_≡_};
 ghost use Prim.Native.Nat.{_<_};
 ghost use Rattle.number.specs.Kind.{real64, real32, complex};
+ghost use Rattle.slab.specs.Elem.{elem, Shows};
 use number::Complex;
 use number::Real32;
 use number::Real64;
+use view::View;
+use view::place;
 
 // Element k of a slab.
 pub fn get64(s: &[f64], k: usize) -> Real64
@@ -30,6 +33,28 @@ pub fn get_complex(s: &[f64], k: usize) -> Complex
         re: s[2 * k],
         im: s[2 * k + 1],
     }
+}
+
+// Element (r, c) of a view.
+pub fn elem64(s: &[f64], v: View, r: usize, c: usize) -> Real64
+    requires { ⌜ Shows v (real64 .count (now s)) r c ⌝ }
+    ensures { λ x. ⌜ x .0 ≡ elem real64 (now (s .entry)) v r c ⌝ }
+{
+    get64(s, place(v, r, c))
+}
+
+pub fn elem32(s: &[f32], v: View, r: usize, c: usize) -> Real32
+    requires { ⌜ Shows v (real32 .count (now s)) r c ⌝ }
+    ensures { λ x. ⌜ x .0 ≡ elem real32 (now (s .entry)) v r c ⌝ }
+{
+    get32(s, place(v, r, c))
+}
+
+pub fn elem_complex(s: &[f64], v: View, r: usize, c: usize) -> Complex
+    requires { ⌜ Shows v (complex .count (now s)) r c ⌝ }
+    ensures { λ x. ⌜ x ≡ elem complex (now (s .entry)) v r c ⌝ }
+{
+    get_complex(s, place(v, r, c))
 }
 
 // Element k replaced.

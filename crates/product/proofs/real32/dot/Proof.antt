@@ -2,14 +2,13 @@ use Prim.Native.Nat.{_≤_, _-_}
 use mathlib.Core.Path.{_∙_, sym, _≡_}
 use native.Mathlib.Omega.{arith}
 use lib.Ieee.{binary32}
-use denote.Ref.{now}
-use borrow.Author.Needs.{needs}
 use Rattle.number.proofs.Literals.{zero-literal}
 use Rattle.number.specs.Kind.{real32}
 use Rattle.slab.specs.Elem.{elem}
-use Rattle.blas.proofs.SumLaws.{sum-start, sum-end, dot-next}
+use Rattle.blas.proofs.SumLaws.{sum-start, sum-end}
 use Rattle.blas.specs.Matrix.{sum as total}
 use Rattle.product.specs.Plan.{reading}
+use Rattle.product.proofs.RunLaws.{run-alike, sum-more}
 use Rattle.product.proofs.real32.dot.Statement.{statement}
 use Rattle.product.proofs.real32.dot.Tie as tie
 
@@ -22,26 +21,20 @@ abbrev μ-loop : tie.MeasureT-loop
 loop-holds : tie.Need-loop-holds Inv-loop μ-loop
 loop-holds c = (omega arith, zero-literal binary32 ∙ sym (sum-start real32 _))
 
-read-requires : tie.Need-read-requires Inv-loop μ-loop
-read-requires c κs = c .before .before .before .before .pre .left _ (omega arith)
+alike-requires : tie.Need-alike-requires Inv-loop μ-loop
+alike-requires c κs = omega arith
 
-read-requires-2 : tie.Need-read-requires-2 Inv-loop μ-loop
-read-requires-2 c κs = c .before .before .before .before .before .pre .right _ (omega arith)
-
-mul-requires : tie.Need-mul-requires Inv-loop μ-loop
-mul-requires c κs = tt
-
-add-requires : tie.Need-add-requires Inv-loop μ-loop
-add-requires c κs = tt
+add-alike-requires : tie.Need-add-alike-requires Inv-loop μ-loop
+add-alike-requires c κs = run-alike _ _ _ _ _ _ _ _ _ _ _ (c .before .before .before .before .before .pre) (c .alike .ensures .0) (c .alike .ensures .1)
 
 add-p : tie.Need-add-p Inv-loop μ-loop
-add-p c = omega arith
+add-p c = omega (arith, c .before .alike .ensures .0 .room)
 
 loop-less : tie.Need-loop-less Inv-loop μ-loop
-loop-less c = omega arith
+loop-less c = let h = c .before .alike .ensures .0 in omega (arith, h .some, h .room)
 
 loop-again : tie.Need-loop-again Inv-loop μ-loop
-loop-again c = let p = c .before .before .before .before .before .before .before .before .args in (omega arith, dot-next real32 (reading real32 (p .l) (elem real32 (now (p .a)) (p .va))) (reading real32 (p .r) (elem real32 (now (p .b)) (p .vb))) (p .i) (p .j) _ _ _ _ _ _ (c .before .before .before .before .before .loop .inv .1) (c .before .before .before .read .ensures) (c .before .before .read2 .ensures) (c .before .mul .ensures) (c .add .ensures))
+loop-again c = (omega (arith, c .before .alike .ensures .0 .room), sum-more real32 _ _ _ _ _ (c .before .before .before .loop .inv .1) (c .add-alike .ensures))
 
 returns : tie.Need-returns Inv-loop μ-loop
 returns c = sum-end real32 _ _ _ _ (c .before .loop .inv .0) (omega arith) (c .before .loop .inv .1)
@@ -53,10 +46,8 @@ dot-spec =
     Inv-loop
     μ-loop
     loop-holds
-    read-requires
-    read-requires-2
-    mul-requires
-    add-requires
+    alike-requires
+    add-alike-requires
     add-p
     loop-less
     loop-again

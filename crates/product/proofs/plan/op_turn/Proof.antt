@@ -1,7 +1,6 @@
 use borrow.Author.Needs.{needs}
-use Rattle.product.specs.Plan.{spotOf}
-use Rattle.product.proofs.plan.transpose.Statement.{statement}
-use Rattle.product.proofs.plan.transpose.Tie as tie
+use Rattle.product.proofs.plan.op_turn.Statement.{statement}
+use Rattle.product.proofs.plan.op_turn.Tie as tie
 
 enum-told : tie.Need-enum-told
 enum-told c = search needs
@@ -13,16 +12,13 @@ enum-told-3 : tie.Need-enum-told-3
 enum-told-3 c = search needs
 
 returns : tie.Need-returns
-unfolding spotOf
 returns c = rw (c .enum-told .given .1)
 
 returns-2 : tie.Need-returns-2
-unfolding spotOf
 returns-2 c = rw (c .enum-told2 .given .1)
 
 returns-3 : tie.Need-returns-3
-unfolding spotOf
 returns-3 c = rw (c .enum-told3 .given .1)
 
-pub transpose-spec : {M : Type 1} → statement M
-transpose-spec = tie.close (tie.spec enum-told enum-told-2 enum-told-3 returns returns-2 returns-3)
+pub op-turn-spec : {M : Type 1} → statement M
+op-turn-spec = tie.close (tie.spec enum-told enum-told-2 enum-told-3 returns returns-2 returns-3)
