@@ -16,5 +16,9 @@ pub mod AgreeOutcomes
 pub mod AgreeUnits
 pub mod AgreeProducts
 pub mod AgreeRoutines
+pub mod AgreeCoefficients
+pub mod AgreeStrips
+pub mod AgreeSingles
+pub mod AgreeTriangularProducts
 pub mod AgreeKinds
 pub mod AgreeExamples
