@@ -29,6 +29,11 @@ pub record Strip (side : Side) (v : View) (n : ℕ) : Type 0 where
   pub accepted : Accepted v n
   pub apart : overlaps v ≡ false
 
+-- the unknown that the target's element (i, j) is
+abbrev pub unknownIn : Side → ℕ → ℕ → ℕ
+unknownIn Left i j = i
+unknownIn Right i j = j
+
 -- the row and the column of unknown q of the first line
 abbrev pub rowAt : Side → ℕ → ℕ
 rowAt Left q = q

@@ -37,7 +37,7 @@ use Rattle.theorems.proofs.AgreeOutcomes.{worked, outcome-attempt}
 use Rattle.theorems.proofs.AgreeUnits.{Zeros, unitSlab, unit-count, unit-picks, accepted-inside, accepted-distinct}
 use Rattle.theorems.proofs.AgreeProducts.{beside, breadth}
 use Rattle.theorems.proofs.AgreeCoefficients.{Fit, Meet, coefficient, times, times-cong, times-zero, times-one, rowIn, colIn, in-both, named-back, element-back, takes, named-takes, takes-triangle, off-diagonal, named-off, coefficient-same, coefficient-finite, coefficient-holds}
-use Rattle.theorems.proofs.AgreeStrips.{Strip, rowAt, colAt, strip-shown, strip, strip-strip, vector-strip}
+use Rattle.theorems.proofs.AgreeStrips.{Strip, unknownIn, rowAt, colAt, strip-shown, strip, strip-strip, vector-strip}
 use Rattle.theorems.proofs.AgreeSingles.{Work, Routine, Plain, attempted, Shots, Respects, onMatrix, matrix-plain, onVector, vector-plain, single-sees}
 
 -- ---- an element of op(A)'s triangle, as unknown q takes it from unknown p
@@ -121,11 +121,6 @@ module _ (K : Kind) (L : Laws K) (side : Side) (uplo : UpLo) (t : Trans) (diag :
       (λ p' l m' o. times-zero K L side _ (x p') (entry-finite n q p' hq l m' a h) (u .other p' l o))
 
 -- ---- the target
-
--- the unknown that the target's element (i, j) is
-abbrev unknownIn : Side → ℕ → ℕ → ℕ
-unknownIn Left i j = i
-unknownIn Right i j = j
 
 unknown-lt : (side : Side) (v : View) (i j : ℕ) → i < v .rows → j < v .cols → unknownIn side i j < orderOf side v
 unknown-lt Left v i j p q = p

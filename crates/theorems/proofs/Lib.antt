@@ -20,5 +20,8 @@ pub mod AgreeCoefficients
 pub mod AgreeStrips
 pub mod AgreeSingles
 pub mod AgreeTriangularProducts
+pub mod AgreeDifferences
+pub mod AgreeSolves
+pub mod AgreeTriangularSolves
 pub mod AgreeKinds
 pub mod AgreeExamples
