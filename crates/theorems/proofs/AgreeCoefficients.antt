@@ -1,8 +1,8 @@
 -- How a triangular routine reads A. In the equation of unknown q, unknown p of the same line of B (Left: a column, Right: a row) is
 -- multiplied by one coefficient: an element of op(A), which is an element of A or its conjugate.
 use Prim.Native.Nat.{ℕ, _<_}
-use mathlib.Core.Bool.{Bool, true, false, not, cond, _&&_}
-use mathlib.Core.Path.{_≡_, refl, sym, ap, subst, _∙_}
+use mathlib.Core.Bool.{Bool, true, false, not, cond}
+use mathlib.Core.Path.{_≡_, refl, sym, ap, _∙_}
 use lib.Dec.{leb, eqb}
 use borrow.Author.Tests.{eq-eqb, ne-eqb}
 use Rattle.number.specs.Kind.{Kind, Same, Holds, Finite}
@@ -19,7 +19,7 @@ use Rattle.view.specs.Triangle.{inTriangle}
 use Rattle.view.specs.AnyLaws.{and-both, and-left, and-right, clash}
 use Rattle.slab.specs.Update.{Mask}
 use Rattle.blas.specs.Matrix.{Matrix, op}
-use Rattle.blas.specs.Triangular.{opUpper, inOp, triangular}
+use Rattle.blas.specs.Triangular.{opUpper, inOp}
 use Rattle.blas.specs.Substitution.{brings, lastFirst}
 use Rattle.theorems.specs.Agreement.{triangle}
 use Rattle.theorems.specs.TriangularAgreement.{named}

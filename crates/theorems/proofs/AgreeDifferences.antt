@@ -3,7 +3,7 @@
 use Prim.Native.Nat.{ℕ, zero, suc, _+_, _-_, _*_, _≤_, _<_}
 use mathlib.Core.Bool.{Bool, true, false, cond, _&&_}
 use mathlib.Core.List.{List}
-use mathlib.Core.Path.{_≡_, refl, sym, ap, subst, _∙_}
+use mathlib.Core.Path.{_≡_, refl, sym, subst, _∙_}
 use native.Mathlib.Decide.{ℕ-discrete}
 use native.Mathlib.Omega.{arith}
 use lib.Dec.{leb, ltb}
@@ -19,12 +19,12 @@ use Rattle.view.specs.Any.{any}
 use Rattle.view.specs.AnyLaws.{none, and-right, is-false, clash}
 use Rattle.view.specs.Checks.{orderOf}
 use Rattle.blas.specs.Matrix.{Matrix}
-use Rattle.blas.specs.Substitution.{unknownAt, unknown, brings, lastFirst, inOrder, leastSolved, turnOf, lineOf, less, solveOne, solved, substituted}
+use Rattle.blas.specs.Substitution.{unknownAt, unknown, lastFirst, inOrder, leastSolved, turnOf, lineOf, less, solveOne, solved, substituted}
 use Rattle.blas.proofs.SubstitutionLaws.{in-order-lt, turn-lt}
 use Rattle.theorems.specs.Agreement.{SameOutcome}
 use Rattle.theorems.specs.TriangularAgreement.{named}
 use Rattle.theorems.proofs.AgreeOutcomes.{worked}
-use Rattle.theorems.proofs.AgreeCoefficients.{Meet, coefficient, times, brings-is, times-cong, rowIn, colIn, takes, takes-order, off-diagonal, coefficient-same}
+use Rattle.theorems.proofs.AgreeCoefficients.{Meet, brings-is, times-cong, takes, takes-order, off-diagonal, coefficient-same}
 
 -- ---- differences
 

@@ -6,7 +6,7 @@ use mathlib.Core.Path.{_≡_, refl, sym, subst, _∙_}
 use native.Mathlib.Omega.{arith}
 use lib.Dec.{eqb}
 use lib.ListN.{length}
-use Rattle.number.specs.Kind.{Kind, Same, Holds, Finite}
+use Rattle.number.specs.Kind.{Kind, Same}
 use Rattle.number.specs.Laws.{Laws, Held}
 use Rattle.view.specs.declared.View.{View}
 use Rattle.view.specs.declared.Answer.the-variants.{Done}

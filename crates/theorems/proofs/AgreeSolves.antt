@@ -20,13 +20,13 @@ use Rattle.view.specs.declared.Side.the-variants.{Left, Right}
 use Rattle.view.specs.AnyLaws.{clash}
 use Rattle.view.specs.Checks.{orderOf}
 use Rattle.blas.specs.Matrix.{Matrix}
-use Rattle.blas.specs.Substitution.{unknownAt, unknown, brings, lastFirst, inOrder, leastSolved, turnOf, lineOf, less, solution, solveOne, solved}
+use Rattle.blas.specs.Substitution.{unknownAt, unknown, lastFirst, inOrder, turnOf, lineOf, less, solution, solveOne, solved}
 use Rattle.blas.proofs.SubstitutionLaws.{in-order-lt, in-order-twice}
 use Rattle.theorems.specs.TriangularAgreement.{named}
 use Rattle.theorems.proofs.AgreeProducts.{breadth}
 use Rattle.theorems.proofs.AgreeCoefficients.{Fit, coefficient, times, brings-is, times-zero, times-one, rowIn, colIn, takes, named-takes, named-off, off-diagonal, coefficient-finite, coefficient-holds}
 use Rattle.theorems.proofs.AgreeStrips.{Strip}
-use Rattle.theorems.proofs.AgreeDifferences.{less-same, less-zero, less-one, turnUnknown, firstBefore, before-taken, taken-before, before-earlier}
+use Rattle.theorems.proofs.AgreeDifferences.{less-same, less-zero, less-one, firstBefore, before-taken, taken-before, before-earlier}
 
 -- x is number p of the j-th unit vector
 record Delta (K : Kind) (j p : ℕ) (x : K .Elem) : Type 0 where
@@ -60,6 +60,11 @@ module _ (K : Kind) (side : Side) (uplo : UpLo) (t : Trans) (a : Matrix K) (j : 
       at (no o) true m = rw (column-taken p o m) (inside o m)
       at (no o) false m = rw (column-zero p o m) at-zero
 
+pub column-holds : (K : Kind) → Laws K → (side : Side) (uplo : UpLo) (t : Trans) (a : Matrix K) (j : ℕ) → ((i j : ℕ) → Holds K (a i j)) → (p : ℕ) →
+    Holds K (column K side uplo t a j p)
+column-holds K L side uplo t a j h p =
+    by-column K side uplo t a j (Holds K) p (L .one-holds) (L .zero-holds) (λ o m. coefficient-holds K L side t p j a h)
+
 -- ---- one line is solved unknown after unknown
 
 strip-turn : (side : Side) (v : View) → breadth side v ≡ 1 → (m : ℕ) → m < orderOf side v → (turnOf side v m ≡ m) × (lineOf side v m ≡ 0)
@@ -70,8 +75,8 @@ pub strip-total : (side : Side) (v : View) → breadth side v ≡ 1 → v .rows 
 strip-total Left v e = rw e (mul-one (v .rows))
 strip-total Right v e = rw e (one-mul (v .cols))
 
-module _ (K : Kind) (L : Laws K) (side : Side) (uplo : UpLo) (t : Trans) (start : K .Elem → K .Elem)
-    (start-cong : (x y : K .Elem) → Same K x y → Same K (start x) (start y)) (v : View) (w : Strip side v (orderOf side v)) where
+module _ (K : Kind) (L : Laws K) (side : Side) (uplo : UpLo) (t : Trans) (start : K .Elem → K .Elem) (v : View)
+    (w : Strip side v (orderOf side v)) where
   -- how many unknowns there are, the one that is solved after k others, and where one stands
   abbrev size : ℕ
   size = orderOf side v
@@ -149,18 +154,21 @@ module _ (K : Kind) (L : Laws K) (side : Side) (uplo : UpLo) (t : Trans) (start 
         subst (λ (i : ℕ). K .at (after k) (spot i) ≡ K .at (after size) (spot i)) (order-twice p l)
         (kept (order p) k g (omega arith) ∙ sym (kept (order p) size (order-lt p l) (omega arith)))
 
+    -- what unknown p of the solution brings into the equation of the unknown that is solved after k others
+    abbrev term : ℕ → ℕ → K .Elem
+    term k p = times K side (coefficient K side t a (order k) p) (final p)
+
     -- each unknown of the solution is its right-hand side less what those before it bring
     equation : (k : ℕ) → k < size →
-        Same K (final (order k))
-        (less K (start (unknown K side s v (order k) 0)) (λ p. times K side (coefficient K side t a (order k) p) (final p)) (firstBefore side uplo t size k) k)
+        Same K (final (order k)) (less K (start (unknown K side s v (order k) 0)) (term k) (firstBefore side uplo t size k) k)
     equation k h =
-        subst (λ (z : K .Elem). Same K z (less K (start (unknown K side s v (order k) 0)) (λ p. times K side (coefficient K side t a (order k) p) (final p)) (firstBefore side uplo t size k) k))
-        (sym (kept k size h (omega arith)))
+        rw (kept k size h (omega arith))
         (less-same K L _ _ _ _ (firstBefore side uplo t size k) k
         (rw (not-yet k k h (omega arith)) (L .same-refl _))
         (λ p i j.
         let b = before-taken side uplo t size k h p i j in
-        rw (brings-is K side t a (order k) p (unknown K side (after k) v p 0), settled k p h (b .0) (before-earlier (lastFirst side uplo t) size k p h i j)) (L .same-refl _)))
+        let e = settled k p h (b .0) (before-earlier (lastFirst side uplo t) size k p h i j) in
+        rw (brings-is K side t a (order k) p (unknown K side (after k) v p 0), e) (L .same-refl _)))
 
     -- ---- where the unknowns before it are the j-th unit vector's
 
@@ -170,9 +178,6 @@ module _ (K : Kind) (L : Laws K) (side : Side) (uplo : UpLo) (t : Trans) (start 
       abbrev from : ℕ
       from = firstBefore side uplo t size k
 
-      abbrev term : ℕ → K .Elem
-      term p = times K side (coefficient K side t a (order k) p) (final p)
-
       term-finite : (p : ℕ) → from ≤ p → p < from + k → Finite K (coefficient K side t a (order k) p)
       term-finite p i l =
           let m = before-taken side uplo t size k h p i l in
@@ -181,18 +186,18 @@ module _ (K : Kind) (L : Laws K) (side : Side) (uplo : UpLo) (t : Trans) (start 
       delta : (p : ℕ) → from ≤ p → p < from + k → Delta K j p (final p)
       delta p i l = before p (before-taken side uplo t size k h p i l .0) (before-earlier (lastFirst side uplo t) size k p h i l)
 
-      zero-term : (p : ℕ) → from ≤ p → p < from + k → (p ≡ j → ⊥) → Same K (term p) (K .zero)
+      zero-term : (p : ℕ) → from ≤ p → p < from + k → (p ≡ j → ⊥) → Same K (term k p) (K .zero)
       zero-term p i l o = times-zero K L side _ _ (term-finite p i l) (delta p i l .other o)
 
-      from-right : Same K (final (order k)) (less K (b (order k)) term from k)
+      from-right : Same K (final (order k)) (less K (b (order k)) (term k) from k)
       from-right =
-          L .same-trans (equation k h) (less-same K L _ _ _ _ from k (right (order k) (order-lt k h)) (λ p i l. L .same-refl (term p)))
+          L .same-trans (equation k h) (less-same K L _ _ _ _ from k (right (order k) (order-lt k h)) (λ p i l. L .same-refl (term k p)))
 
       -- it takes none of the unknown j
       alone : (takes side uplo t (order k) j ≡ true → (order k ≡ j → ⊥) → ⊥) → Same K (final (order k)) (b (order k))
       alone no-j =
           L .same-trans from-right
-          (less-zero K L (b (order k)) term from k (held (order k))
+          (less-zero K L (b (order k)) (term k) from k (held (order k))
           (λ p i l.
           zero-term p i l
           (λ e.
@@ -205,7 +210,7 @@ module _ (K : Kind) (L : Laws K) (side : Side) (uplo : UpLo) (t : Trans) (start 
       once hj e o =
           let m = taken-before side uplo t size k h j hj e o in
           L .same-trans from-right
-          (less-one K L (b (order k)) (coefficient K side t a (order k) j) term from k j (held (order k)) (m .0) (m .1)
+          (less-one K L (b (order k)) (coefficient K side t a (order k) j) (term k) from k j (held (order k)) (m .0) (m .1)
           (times-one K L side _ _ (coefficient-holds K L side t (order k) j a (fit .holds)) (term-finite j (m .0) (m .1)) (delta j (m .0) (m .1) .here refl))
           zero-term)
 
@@ -214,8 +219,7 @@ module _ (K : Kind) (L : Laws K) (side : Side) (uplo : UpLo) (t : Trans) (start 
   module _ (a : Matrix K) (fit : Fit K (named uplo Unit) size a) (s : List (K .Cell)) (counted : K .count s ≡ size) (j : ℕ) (hj : j < size)
       (right : (p : ℕ) → p < size → Same K (start (unknown K side s v p 0)) (column K side uplo t a j p)) where
     held-column : (p : ℕ) → Holds K (column K side uplo t a j p)
-    held-column p =
-        by-column K side uplo t a j (Holds K) p (L .one-holds) (L .zero-holds) (λ o m. coefficient-holds K L side t p j a (fit .holds))
+    held-column = column-holds K L side uplo t a j (fit .holds)
 
     unit-step : (k : ℕ) → k < size → ((p : ℕ) → p < size → order p < k → Delta K j p (final a s counted p)) → Delta K j (order k) (final a s counted (order k))
     unit-step k h before = record {

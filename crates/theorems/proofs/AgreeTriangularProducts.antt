@@ -1,11 +1,9 @@
 -- What trmv and trmm can see of A, at every setting of their flags: over any number kind with its laws.
 use Prim.Native.Nat.{ℕ, _≤_, _<_}
-use mathlib.Core.Bool.{Bool, true, cond, _&&_}
+use mathlib.Core.Bool.{Bool, true, cond}
 use mathlib.Core.List.{List}
 use mathlib.Core.Path.{_≡_, refl, sym, ap, subst, _∙_}
 use native.Mathlib.Decide.{ℕ-discrete}
-use native.Mathlib.Omega.{arith}
-use lib.Dec.{eqb, lit≤}
 use borrow.Author.Tests.{eq-eqb, ne-eqb}
 use Rattle.number.specs.Kind.{Kind, Same, Holds, Finite}
 use Rattle.number.specs.Laws.{Laws, SameSlab}
@@ -17,13 +15,11 @@ use Rattle.view.specs.declared.Diag.the-variants.{NonUnit, Unit}
 use Rattle.view.specs.declared.Side.{Side}
 use Rattle.view.specs.declared.Side.the-variants.{Left, Right}
 use Rattle.view.specs.Refusals.{limit}
-use Rattle.view.specs.Steps.{Accepted}
 use Rattle.view.specs.Checks.{orderOf, trmvCheck, trmmCheck}
 use Rattle.view.specs.Vector.{columnOf}
 use Rattle.slab.specs.Elem.{Lent, elem}
 use Rattle.slab.specs.Update.{everywhere, update}
-use Rattle.slab.specs.Distinct.{Inside, Distinct}
-use Rattle.slab.proofs.UpdateLaws.{update-shown, update-same-slab}
+use Rattle.slab.proofs.UpdateLaws.{update-same-slab}
 use Rattle.blas.specs.Matrix.{Matrix, matrix, op, sumOver}
 use Rattle.blas.specs.Outcome.{Outcome}
 use Rattle.blas.specs.Triangular.{triangular, triangularDot}
@@ -34,8 +30,8 @@ use Rattle.theorems.specs.Agreement.{Square, Sees}
 use Rattle.theorems.specs.TriangularAgreement.{named, Single, runPlain, runScaled}
 use Rattle.theorems.proofs.AgreeSums.{Picks, over-same, over-one}
 use Rattle.theorems.proofs.AgreeOutcomes.{worked, outcome-attempt}
-use Rattle.theorems.proofs.AgreeUnits.{Zeros, unitSlab, unit-count, unit-picks, accepted-inside, accepted-distinct}
-use Rattle.theorems.proofs.AgreeProducts.{beside, breadth}
+use Rattle.theorems.proofs.AgreeUnits.{Zeros, unitSlab, unit-count, unit-picks}
+use Rattle.theorems.proofs.AgreeProducts.{beside}
 use Rattle.theorems.proofs.AgreeCoefficients.{Fit, Meet, coefficient, times, times-cong, times-zero, times-one, rowIn, colIn, in-both, named-back, element-back, takes, named-takes, takes-triangle, off-diagonal, named-off, coefficient-same, coefficient-finite, coefficient-holds}
 use Rattle.theorems.proofs.AgreeStrips.{Strip, unknownIn, rowAt, colAt, strip-shown, strip, strip-strip, vector-strip}
 use Rattle.theorems.proofs.AgreeSingles.{Work, Routine, Plain, attempted, Shots, Respects, onMatrix, matrix-plain, onVector, vector-plain, single-sees}

@@ -1,11 +1,10 @@
 -- What the Unit cases of trsv and trsm can see of A: over any number kind with its laws.
-use Prim.Native.Nat.{ℕ, _^_, _*_, _≤_, _<_}
+use Prim.Native.Nat.{ℕ, _^_, _≤_, _<_}
 use mathlib.Core.List.{List}
 use mathlib.Core.Path.{_≡_, refl, sym, ap, subst, _∙_}
-use native.Mathlib.Omega.{arith}
 use lib.ListN.{length}
 use Rattle.number.specs.Kind.{Kind, Same, Holds, Finite}
-use Rattle.number.specs.Laws.{Laws, Held, SameSlab}
+use Rattle.number.specs.Laws.{Laws, Held}
 use Rattle.view.specs.declared.View.{View}
 use Rattle.view.specs.declared.Trans.{Trans}
 use Rattle.view.specs.declared.UpLo.{UpLo}
@@ -15,11 +14,9 @@ use Rattle.view.specs.declared.Side.the-variants.{Left, Right}
 use Rattle.view.specs.Refusals.{limit}
 use Rattle.view.specs.Checks.{orderOf}
 use Rattle.view.specs.Vector.{columnOf}
-use Rattle.slab.specs.Elem.{Lent}
 use Rattle.slab.specs.Update.{everywhere, update}
 use Rattle.slab.proofs.UpdateLaws.{count-update, length-update, update-held}
 use Rattle.blas.specs.Matrix.{Matrix}
-use Rattle.blas.specs.Outcome.{Outcome}
 use Rattle.blas.specs.Substitution.{unknown, solved, substituted}
 use Rattle.blas.specs.Trsv.{trsv}
 use Rattle.blas.specs.Trsm.{timesAlpha, trsm}
@@ -27,11 +24,11 @@ use Rattle.theorems.specs.Agreement.{SameOutcome, Square, Sees}
 use Rattle.theorems.specs.TriangularAgreement.{named, Single, runPlain, runScaled}
 use Rattle.theorems.proofs.AgreeOutcomes.{worked}
 use Rattle.theorems.proofs.AgreeUnits.{Zeros}
-use Rattle.theorems.proofs.AgreeCoefficients.{Fit, rowIn, colIn, in-both, named-back, element-back, off-diagonal, coefficient-finite, coefficient-holds}
+use Rattle.theorems.proofs.AgreeCoefficients.{rowIn, colIn, in-both, named-back, element-back, off-diagonal, coefficient-finite}
 use Rattle.theorems.proofs.AgreeStrips.{Strip, unknownIn, rowAt, colAt, strip-shown, strip, strip-strip, vector-strip}
-use Rattle.theorems.proofs.AgreeSingles.{Work, Routine, Plain, attempted, Shots, Respects, onMatrix, matrix-plain, onVector, vector-plain, single-sees}
+use Rattle.theorems.proofs.AgreeSingles.{Work, Routine, Plain, Shots, Respects, onMatrix, matrix-plain, onVector, vector-plain, single-sees}
 use Rattle.theorems.proofs.AgreeDifferences.{unit-solved, substituted-same}
-use Rattle.theorems.proofs.AgreeSolves.{column, by-column, strip-total, same-column}
+use Rattle.theorems.proofs.AgreeSolves.{column, by-column, column-holds, strip-total, same-column}
 
 -- ---- a slab that shows b
 
@@ -82,13 +79,12 @@ module _ (K : Kind) (L : Laws K) (side : Side) (uplo : UpLo) (t : Trans) (start 
     numbers = filled-held K L Z side v n b held;
     size = filled-size K L Z side v n b small;
     tells = λ a' fit' o.
-        let o' : SameOutcome K (worked K (solved K side uplo t Unit (start (K .one)) a v n (prepare (K .one) v s))) (worked K (solved K side uplo t Unit (start (K .one)) a' v n (prepare (K .one) v s))) =
-        rw (unit-solved K side uplo t (start (K .one)) a v (prepare (K .one) v s), unit-solved K side uplo t (start (K .one)) a' v (prepare (K .one) v s), strip-total side v (w .one-line)) at o
+        let o' : SameOutcome K (worked K (solution a)) (worked K (solution a')) =
+        rw (unit-solved K side uplo t (start (K .one)) a v lent, unit-solved K side uplo t (start (K .one)) a' v lent, strip-total side v (w .one-line))
+        at o
         in
         element-back K L side t r c a a'
-        (same-column K L side uplo t (start (K .one)) (S .cong (K .one)) v w a fit (prepare (K .one) v s) (S .count v s ∙ counted) j
-        (in-both (λ i j. j < n) side t r c hc hr)
-        right
+        (same-column K L side uplo t (start (K .one)) v w a fit lent (S .count v s ∙ counted) j j-lt right
         a'
         fit'
         (o' .slab)
@@ -110,7 +106,7 @@ module _ (K : Kind) (L : Laws K) (side : Side) (uplo : UpLo) (t : Trans) (start 
       b = column K side uplo t a j
 
       held : (p : ℕ) → Holds K (b p)
-      held p = by-column K side uplo t a j (Holds K) p (L .one-holds) (L .zero-holds) (λ o m. coefficient-holds K L side t p j a (fit .holds))
+      held = column-holds K L side uplo t a j (fit .holds)
 
       finite : (p : ℕ) → p < n → Finite K (b p)
       finite p h =
@@ -123,10 +119,17 @@ module _ (K : Kind) (L : Laws K) (side : Side) (uplo : UpLo) (t : Trans) (start 
       counted : K .count s ≡ n
       counted = filled-count K L Z side v n b
 
-      right : (p : ℕ) → p < n → Same K (start (K .one) (unknown K side (prepare (K .one) v s) v p 0)) (b p)
+      -- B's slab as the solve takes it up, and as the solve leaves it
+      lent : List (K .Cell)
+      lent = prepare (K .one) v s
+
+      solution : Matrix K → List (K .Cell)
+      solution a = solved K side uplo t Unit (start (K .one)) a v n lent
+
+      right : (p : ℕ) → p < n → Same K (start (K .one) (unknown K side lent v p 0)) (b p)
       right p h =
           let e = filled-shows K L Z side v n b w p h in
-          subst (λ (x : K .Elem). Same K (start (K .one) (unknown K side (prepare (K .one) v s) v p 0)) x) e
+          subst (Same K (start (K .one) (unknown K side lent v p 0))) e
           (S .by-one v n w s counted p h (subst (Holds K) (sym e) (held p)) (subst (Finite K) (sym e) (finite p h)))
 
   solve-shots : Zeros K → (n : ℕ) → n ≤ limit → (v : View) → Strip side v n → Shots K (solves K side uplo t start prepare) (named uplo Unit) n v
