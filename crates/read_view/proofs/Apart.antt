@@ -1,6 +1,6 @@
 -- A function that takes a read view apart and calls another on its slab, its view, r and c (`Element R`), meets its contract (`Method R`): a walk of its MIR, by hand, over any such callee g,
 -- of which all that is known is that it meets its contract. get and get_complex are this at their own callee, result and definition.
--- The struct is Copy: what it owns is had twice, one copy is kept for the exit, and the other goes to the callee, beside the lifetime's token, which comes back.
+-- What the struct owns is kept for the exit, and what its slab and its view own goes to the callee, beside the lifetime's token, which comes back.
 use mathlib.Core.Path.{_≡_, refl}
 use Prim.Native.Nat.{ℕ, _<_, _^_}
 use mathlib.Core.List.{List, [], _∷_}
@@ -15,7 +15,7 @@ use base.Fml.{Lft, Share, Fml, ftrue, flft}
 use prog.Wp.{Heap, Calls, Loops, WpFn, Tables}
 use ghost.Atoms.{Atoms, sem}
 use contract.Monad.{fact}
-use types.Kit.{Given, ‵, raw, _⊛_, given, ⋆, some, later, _$_, _∵_, !, qed, by, move, drop, use1, use2, split, join, learn, pick, fsplit, fjoin, suffices, frame, await, done}
+use types.Kit.{Given, ‵, raw, _⊛_, ⋆, some, later, _$_, _∵_, !, qed, by, move, use1, use2, split, join, pick, fsplit, fjoin, suffices, frame, await, done}
 use types.Part.{whole, sub, look-in}
 use types.Run.{look, init, forget, stop, fld, from, load, of-opd, and-then, no-more, assigns, land, returns, enter, alloc1, alloc0, params1, pass1, pass0, free1, free0}
 use sound.WpLaws.{FmC, fmOf, WpFn-mono}
@@ -26,11 +26,8 @@ use denote.Builtin.{f64, usize}
 use denote.Ref.{now}
 use denote.Signature.{namedLft}
 use denote.Slice.{sliceTy, sliceVal, ShrSlice}
-use denote.Steps.{owned, peeks, heard}
-use denote.Struct.Declared.{Declared}
+use denote.Steps.{nothing, owned, peeks, heard}
 use denote.Struct.Laws as LL
-use denote.Struct.Rest.{all-own, own-open}
-use denote.Struct.Values.{Values}
 use denote.Triple.Statement.{Triple}
 use denote.Triple.Call.{calls-at}
 use denote.Triple.Entry.{Vals, onEntry}
@@ -44,7 +41,8 @@ use Rattle.view.proofs.View.Laws as X′
 use Rattle.read_view.specs.declared.ReadView.{ReadView}
 use Rattle.read_view.proofs.ReadView as T
 use Rattle.read_view.proofs.ReadView.Laws as T′
-use Rattle.read_view.proofs.Contracts.{B, Element, Method, element-says, method-says, tripled}
+use Rattle.read_view.proofs.Held.{B, Own, SlabOwns, ViewOwns, parted}
+use Rattle.read_view.proofs.Contracts.{Element, Method, element-says, method-says, tripled}
 
 -- _4 = _1.slab; _5 = _1.view; _0 = g(_4, _5, _2, _3); return
 abbrev pub apart : Name → Ty → Fn
@@ -81,21 +79,8 @@ module _ (g : Name) (R : RattleType) (τ : Ty) (f : List Float → View → ℕ 
       abbrev Post : Val → SProp 𝓤
       Post = walkOf 𝓤 H A (Method R) stayed (method-says 𝓤 R f) .post (((κ, tt), (q, tt), tt, (d, (m, (n, tt))), at), tt)
 
-      abbrev Own : Fml
-      Own = B (κ, tt) .own d (mach ∷ [])
-
       abbrev Kept : Fml
       Kept = owns (B (κ, tt) ∷ usize ∷ usize ∷ []) (d, (m, (n, tt))) at
-
-      -- the struct's type and laws, and d's fields' values
-      abbrev D : Declared
-      D = T.the-type (namedLft 1 0 tt (κ, tt))
-
-      abbrev L : LL.Laws D
-      L = T′.the-laws (namedLft 1 0 tt (κ, tt))
-
-      abbrev vd : Values (D .parts)
-      vd = (d .slab, (d .view, tt))
 
       -- what the callee is passed
       abbrev passed : Vals (Element R .signature) (κ, tt)
@@ -111,14 +96,11 @@ module _ (g : Name) (R : RattleType) (τ : Ty) (f : List Float → View → ℕ 
       opened : ent 𝓤 (onEntry 𝓤 H A (Method R .signature) (κ, tt) (q, tt) (d, (m, (n, tt))) at) (sep 𝓤 (tripled 𝓤 H A (Element R) (element-says 𝓤 R f) .pre to) (sem 𝓤 H A Kept))
       opened =
           qed W ((‵ (flft κ q) ⊛ ‵ ftrue) ∷ ‵ Kept ∷ []) ∵
-          move ! (1 ∷ []) $ fsplit ! $ use1 W (‵ Own ⊛ ‵ Own) (LL.copy D (T′.the-copy (namedLft 1 0 tt (κ, tt))) 𝓤 H A W .twice d (mach ∷ [])) $ split ! $
-          move ! (0 ∷ 2 ∷ []) $ fjoin ! $ move ! (1 ∷ []) $
-          -- [what the struct owns; what is kept; the token]
-          use1 W (given (mach ∷ [] ≡ mach ∷ []) (‵ (all-own (D .parts) L vd))) (own-open 𝓤 H A W D L vd mach) $ learn ! (λ _. fsplit ! $ move ! (1 ∷ []) $ fsplit ! $ move ! (1 ∷ []) $
-          -- [nothing; the view's; the slab's; what is kept; the token]
-          owned ! usize (Is usize) (uint-makes 𝓤 H A W w64) n _ (refl, fn) $ fjoin ! $ owned ! usize (Is usize) (uint-makes 𝓤 H A W w64) m _ (refl, fm) $ fjoin ! $
-          move ! (1 ∷ 0 ∷ []) $ fjoin ! $ move ! (1 ∷ 0 ∷ []) $ fjoin ! $
-          move ! (2 ∷ 0 ∷ []) $ use2 W (raw (tripled 𝓤 H A (Element R) (element-says 𝓤 R f) .pre to)) asked $ frame ! $ done !)
+          move ! (1 ∷ []) $ fsplit ! $ use1 W (‵ (Own κ d) ⊛ (‵ (SlabOwns κ d) ⊛ ‵ (ViewOwns κ d))) (parted κ d 𝓤 H A W) $ split ! $ move ! (0 ∷ 2 ∷ []) $ fjoin ! $ move ! (1 ∷ []) $ split ! $
+          -- [the slab's; the view's; what is kept; the token]
+          nothing ! $ owned ! usize (Is usize) (uint-makes 𝓤 H A W w64) n _ (refl, fn) $ fjoin ! $ owned ! usize (Is usize) (uint-makes 𝓤 H A W w64) m _ (refl, fm) $ fjoin ! $
+          move ! (2 ∷ 0 ∷ []) $ fjoin ! $ move ! (1 ∷ 0 ∷ []) $ fjoin ! $
+          move ! (2 ∷ 0 ∷ []) $ use2 W (raw (tripled 𝓤 H A (Element R) (element-says 𝓤 R f) .pre to)) asked $ frame ! $ done !
 
       -- of what the callee ensures, the clause alone: it has no `&mut`, so what is said of last values is dropped
       said : (r : R .Denot) → ent 𝓤 (ensured 𝓤 H A (Element R) (element-says 𝓤 R f) (κ, tt) (d .slab, (d .view, (m, (n, tt)))) tt r) (fact 𝓤 (r ≡ found))

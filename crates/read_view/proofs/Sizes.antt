@@ -12,7 +12,7 @@ use base.Fml.{Lft, Share, Fml, ftrue, flft}
 use prog.Wp.{Heap, Calls, Loops, WpFn, Tables}
 use ghost.Atoms.{Atoms, sem}
 use contract.Monad.{fact}
-use types.Kit.{Given, ‵, raw, _⊛_, given, ⋆, some, later, _$_, _∵_, !, qed, by, move, drop, use1, use2, split, join, learn, pick, fsplit, fjoin, suffices, frame, await, done}
+use types.Kit.{Given, ‵, raw, _⊛_, ⋆, some, later, _$_, _∵_, !, qed, by, move, drop, use1, use2, split, join, pick, fsplit, fjoin, suffices, frame, await, done}
 use types.Part.{whole, sub, look-in}
 use types.Run.{look, init, forget, stop, fld, from, load, of-opd, and-then, no-more, assigns, land, returns, enter, alloc1, alloc0, params1, pass1, pass0, free1, free0}
 use sound.WpLaws.{FmC, fmOf, WpFn-mono}
@@ -22,13 +22,10 @@ use denote.Plain.{uint-lawful}
 use denote.Builtin.{usize}
 use denote.Signature.{namedLft}
 use denote.Steps.{nothing, peeks, heard}
-use denote.Struct.Declared.{Declared}
 use denote.Struct.Laws as LL
-use denote.Struct.Rest.{all-own, own-open}
-use denote.Struct.Values.{Values}
 use denote.Triple.Statement.{Triple}
 use denote.Triple.Call.{calls-at}
-use denote.Triple.Entry.{Vals, onEntry}
+use denote.Triple.Entry.{onEntry}
 use denote.Triple.Spec.{Meets}
 use denote.Triple.Walked.{says, Stays, stay-none, walkOf, goes-none, Walks, ends-at, walked, walk-meets}
 use denote.Exit.{yes}
@@ -39,7 +36,8 @@ use Rattle.view.proofs.View.Laws as X′
 use Rattle.read_view.specs.declared.ReadView.{ReadView}
 use Rattle.read_view.proofs.ReadView as T
 use Rattle.read_view.proofs.ReadView.Laws as T′
-use Rattle.read_view.proofs.Contracts.{B, Size, SizeOf, size-says, size-of-says, tripled}
+use Rattle.read_view.proofs.Held.{B, Own, SlabOwns, ViewOwns, parted}
+use Rattle.read_view.proofs.Contracts.{Size, SizeOf, size-says, size-of-says, tripled}
 
 -- _2 = _1.view; _0 = g(_2); return
 abbrev pub sized : Name → Fn
@@ -66,21 +64,8 @@ module _ (g : Name) (f : View → ℕ) where
       abbrev Post : Val → SProp 𝓤
       Post = walkOf 𝓤 H A SizeOf stayed (size-of-says 𝓤 f) .post (((κ, tt), (q, tt), tt, (d, tt), (mach ∷ [], tt)), tt)
 
-      abbrev Own : Fml
-      Own = B (κ, tt) .own d (mach ∷ [])
-
       abbrev Kept : Fml
       Kept = owns (B (κ, tt) ∷ []) (d, tt) (mach ∷ [], tt)
-
-      -- the struct's type and laws, and d's fields' values
-      abbrev D : Declared
-      D = T.the-type (namedLft 1 0 tt (κ, tt))
-
-      abbrev L : LL.Laws D
-      L = T′.the-laws (namedLft 1 0 tt (κ, tt))
-
-      abbrev vd : Values (D .parts)
-      vd = (d .slab, (d .view, tt))
 
       abbrev to : tripled 𝓤 H A Size (size-says 𝓤 f) .Ghost
       to = ((tt, tt, tt, (d .view, tt), (u₂ ∷ [], tt)), tt)
@@ -92,11 +77,10 @@ module _ (g : Name) (f : View → ℕ) where
       opened : ent 𝓤 (onEntry 𝓤 H A (SizeOf .signature) (κ, tt) (q, tt) (d, tt) (mach ∷ [], tt)) (sep 𝓤 (tripled 𝓤 H A Size (size-says 𝓤 f) .pre to) (onEntry 𝓤 H A (SizeOf .signature) (κ, tt) (q, tt) (d, tt) (mach ∷ [], tt)))
       opened =
           qed W ((‵ (flft κ q) ⊛ ‵ ftrue) ∷ ‵ Kept ∷ []) ∵
-          move ! (1 ∷ []) $ fsplit ! $ use1 W (‵ Own ⊛ ‵ Own) (LL.copy D (T′.the-copy (namedLft 1 0 tt (κ, tt))) 𝓤 H A W .twice d (mach ∷ [])) $ split ! $
-          move ! (0 ∷ 2 ∷ []) $ fjoin ! $ move ! (2 ∷ 0 ∷ []) $ join ! $ move ! (1 ∷ []) $
-          -- [what the struct owns; the token with what is kept]
-          use1 W (given (mach ∷ [] ≡ mach ∷ []) (‵ (all-own (D .parts) L vd))) (own-open 𝓤 H A W D L vd mach) $ learn ! (λ _. fsplit ! $ drop ! $
-          nothing ! $ use2 W (raw (tripled 𝓤 H A Size (size-says 𝓤 f) .pre to)) asked $ frame ! $ done !)
+          move ! (1 ∷ []) $ fsplit ! $ use1 W (‵ (Own κ d) ⊛ (‵ (SlabOwns κ d) ⊛ ‵ (ViewOwns κ d))) (parted κ d 𝓤 H A W) $ split ! $ move ! (0 ∷ 2 ∷ []) $ fjoin ! $
+          move ! (2 ∷ 0 ∷ []) $ join ! $ move ! (1 ∷ []) $ split ! $ drop ! $
+          -- [the view's; the token with what is kept]
+          nothing ! $ move ! (1 ∷ 0 ∷ []) $ fjoin ! $ nothing ! $ use2 W (raw (tripled 𝓤 H A Size (size-says 𝓤 f) .pre to)) asked $ frame ! $ done !
 
       said : (r : ℕ) → ent 𝓤 (ensured 𝓤 H A Size (size-says 𝓤 f) tt (d .view, tt) tt r) (fact 𝓤 (r ≡ f (d .view)))
       said r = exE 𝓤 _ (λ ws. snd∗ 𝓤 (sem 𝓤 H A (lasts Size tt (d .view, tt) ws)) (fact 𝓤 (r ≡ f (d .view))))

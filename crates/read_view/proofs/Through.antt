@@ -44,7 +44,8 @@ use Rattle.read_view.proofs.ReadView as T
 use Rattle.read_view.proofs.ReadView.Laws as T′
 use Rattle.read_view.proofs.ReadView.new as new
 use Rattle.read_view.proofs.ReadView.new.Symbol.{name as #new}
-use Rattle.read_view.proofs.Contracts.{B, Element, Method, element-says, method-says, tripled}
+use Rattle.read_view.proofs.Held.{B}
+use Rattle.read_view.proofs.Contracts.{Element, Method, element-says, method-says, tripled}
 
 -- _5 = new(_1, _2); _0 = g(_5, _3, _4); return
 abbrev pub through : Name → Ty → Fn
