@@ -6,8 +6,6 @@ use number::Complex;
 use number::Real32;
 use number::Real64;
 
-mod show;
-
 fn main() {
     show::text(b"Worked numbers: what each result is, with its bits in hexadecimal\n");
     sums();

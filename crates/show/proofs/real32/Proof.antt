@@ -1,7 +1,7 @@
 use borrow.Author.Needs.{needs}
-use Rattle.worked_examples.proofs.NotNan.{equals-itself}
-use Rattle.worked_examples.proofs.show.real32.Statement.{statement}
-use Rattle.worked_examples.proofs.show.real32.Tie as tie
+use Rattle.show.proofs.NotNan.{equals-itself}
+use Rattle.show.proofs.real32.Statement.{statement}
+use Rattle.show.proofs.real32.Tie as tie
 
 slice-aggregate-text : tie.Need-slice-aggregate-text
 slice-aggregate-text c = search needs

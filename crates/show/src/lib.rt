@@ -1,4 +1,4 @@
-// Numbers and judgements as text. A number is written as what it is, then its bits in brackets, in hexadecimal.
+// Numbers and judgements as text, on the standard output. A number is written as what it is, then its bits in brackets, in hexadecimal.
 use number::Beta32;
 use number::Beta64;
 use number::BetaComplex;
@@ -134,4 +134,25 @@ fn whole_part(x: f64) -> u64 {
         }
     }
     0
+}
+
+// A whole number of at most three digits, in a column seven wide.
+pub fn column(x: f64) {
+    if x < 0.0 {
+        right(whole_part(-x), b"-");
+    } else {
+        right(whole_part(x), b" ");
+    }
+}
+
+fn right(n: u64, sign: &[u8]) {
+    if n < 10 {
+        text(b"     ");
+    } else if n < 100 {
+        text(b"    ");
+    } else {
+        text(b"   ");
+    }
+    text(sign);
+    io::print_decimal(1, n);
 }

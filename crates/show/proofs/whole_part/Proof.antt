@@ -2,8 +2,8 @@ use mathlib.Core.Path.{sym, subst}
 use lib.Dec.{T}
 use lib.Ieee.{ofBits, neg}
 use borrow.Author.Needs.{needs}
-use Rattle.worked_examples.proofs.show.whole_part.Statement.{statement}
-use Rattle.worked_examples.proofs.show.whole_part.Tie as tie
+use Rattle.show.proofs.whole_part.Statement.{statement}
+use Rattle.show.proofs.whole_part.Tie as tie
 
 truncating-f64-to-u64-requires : tie.Need-truncating-f64-to-u64-requires
 unfolding ofBits neg
