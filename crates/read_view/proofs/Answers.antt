@@ -92,9 +92,9 @@ module _ {A : Type 0} (K : Kind) (number : K .Elem → A) (refused : Answer → 
   by a = cond (isDone a) (number (elem K s v r c)) (refused a)
 
   pub found-number : flag ≡ true → (k : ℕ) (x : K .Elem) → k ≡ index v r c → x ≡ K .at s k → number x ≡ readAt K number refused s v r c
-  unfolding by
+  unfolding by readAt
   found-number h k x e g = ap number (g ∙ ap (K .at s) e) ∙ sym (ap by (check-done _ a flag answered told h))
 
   pub found-refusal : flag ≡ false → refused a ≡ readAt K number refused s v r c
-  unfolding by
+  unfolding by readAt
   found-refusal h = sym (ap (λ (b : Bool). cond b (number (elem K s v r c)) (refused a)) (sym told ∙ h)) ∙ ap by answered

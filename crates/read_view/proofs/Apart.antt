@@ -1,7 +1,7 @@
 -- A function that takes a read view apart and calls another on its slab, its view, r and c (`Element R`), meets its contract (`Method R`): a walk of its MIR, by hand, over any such callee g,
 -- of which all that is known is that it meets its contract. get and get_complex are this at their own callee, result and definition.
 -- What the struct owns is kept for the exit, and what its slab and its view own goes to the callee, beside the lifetime's token, which comes back.
-use mathlib.Core.Path.{_≡_, refl}
+use mathlib.Core.Path.{_≡_, refl, subst}
 use Prim.Native.Nat.{ℕ, _<_, _^_}
 use mathlib.Core.List.{List, [], _∷_}
 use lib.Dec.{T as Holds}
@@ -14,6 +14,7 @@ use base.Logic.{SProp, ent, sep, emp, via, fst∗, snd∗, exE, id⊢}
 use base.Fml.{Lft, Share, Fml, ftrue, flft}
 use prog.Wp.{Heap, Calls, Loops, WpFn, Tables}
 use ghost.Atoms.{Atoms, sem}
+use contract.Lifetimes.{Lfts}
 use contract.Monad.{fact}
 use types.Kit.{Given, ‵, raw, _⊛_, ⋆, some, later, _$_, _∵_, !, qed, by, move, use1, use2, split, join, pick, fsplit, fjoin, suffices, frame, await, done}
 use types.Part.{whole, sub, look-in}
@@ -30,11 +31,11 @@ use denote.Steps.{nothing, owned, peeks, heard}
 use denote.Struct.Laws as LL
 use denote.Triple.Statement.{Triple}
 use denote.Triple.Call.{calls-at}
-use denote.Triple.Entry.{Vals, onEntry}
+use denote.Triple.Entry.{Args, Res, Vals, onEntry}
 use denote.Triple.Spec.{Meets}
 use denote.Triple.Walked.{says, Stays, stay-none, walkOf, goes-none, Walks, ends-at, walked, walk-meets}
 use denote.Exit.{yes}
-use denote.Triple.Clauses.{ensured, lasts, closing}
+use denote.Triple.Clauses.{Clauses, AtExit, ensured, lasts, closing}
 use Rattle.view.specs.declared.View.{View}
 use Rattle.view.proofs.View as X
 use Rattle.view.proofs.View.Laws as X′
@@ -139,9 +140,18 @@ module _ (g : Name) (R : RattleType) (τ : Ty) (f : List Float → View → ℕ 
         (λ κs. (LL.tells (T.the-type (namedLft 1 0 tt κs)) (T′.the-laws (namedLft 1 0 tt κs)), (uint-tells w64, (uint-tells w64, tt))))
         (λ κs qs bounds a g are. via 𝓤 _ (fst∗ 𝓤 _ (emp 𝓤)) (walk (κs .0) (qs .0) (a .0) (a .1 .0) (a .1 .1 .0) (are .1 .0 .1) (are .1 .1 .0 .1) C Λ framed known (LL.lawful (T.the-type (namedLft 1 0 tt κs)) (T′.the-laws (namedLft 1 0 tt κs)) 𝓤 H A W .typed (a .0) _ (are .0) .0)))
 
-    pub apart-meets : (𝓣 : Tables 𝓤 H) → Triple 𝓤 (𝓣 .C g) (tripled 𝓤 H A (Element R) (element-says 𝓤 R f))
+    met : (𝓣 : Tables 𝓤 H) → Triple 𝓤 (𝓣 .C g) (tripled 𝓤 H A (Element R) (element-says 𝓤 R f))
         → Meets 𝓤 H A (Method R .signature) (WpFn 𝓤 H (𝓣 .C) (𝓣 .Λ) (apart g τ)) (closing 𝓤 H A (Method R) (method-says 𝓤 R f))
-    apart-meets 𝓣 known =
+    met 𝓣 known =
         walk-meets 𝓤 H A (Method R) stayed W
         (goes-none 𝓤 H A W 1 B yes (λ κs x f. refl), (goes-none 𝓤 H A W 1 (λ _. usize) yes (λ κs x f. refl), (goes-none 𝓤 H A W 1 (λ _. usize) yes (λ κs x f. refl), tt)))
         (method-says 𝓤 R f) (WpFn 𝓤 H (𝓣 .C) (𝓣 .Λ) (apart g τ)) (WpFn-mono 𝓤 H (W .laws) 𝓣 (apart g τ)) (walks (𝓣 .C) (𝓣 .Λ) (fmOf 𝓤 H (W .laws) 𝓣) known)
+
+    -- for a contract whose one clause says that the result is f of the slab, the view, r and c
+    pub apart-meets : (ensures : (κs : Lfts 1) (a : Args (Method R .signature) κs) → Res (Method R .signature) κs → AtExit (Method R) κs → SProp 𝓤)
+        → ((κs : Lfts 1) (a : Args (Method R .signature) κs) (r : Res (Method R .signature) κs) (e : AtExit (Method R) κs) → fact 𝓤 (r ≡ f (now (a .0 .slab)) (a .0 .view) (a .1 .0) (a .1 .1 .0)) ≡ ensures κs a r e)
+        → (𝓣 : Tables 𝓤 H) → Triple 𝓤 (𝓣 .C g) (tripled 𝓤 H A (Element R) (element-says 𝓤 R f))
+        → Meets 𝓤 H A (Method R .signature) (WpFn 𝓤 H (𝓣 .C) (𝓣 .Λ) (apart g τ)) (closing 𝓤 H A (Method R) (λ κs a. record { ghost = Unit {0}; requires = λ g. emp 𝓤; ensures = λ g. ensures κs a }))
+    apart-meets ensures says 𝓣 known =
+        subst (λ (c : Clauses 𝓤 (Method R)). Meets 𝓤 H A (Method R .signature) (WpFn 𝓤 H (𝓣 .C) (𝓣 .Λ) (apart g τ)) (closing 𝓤 H A (Method R) c))
+        (λ i κs a. record { ghost = Unit {0}; requires = λ g. emp 𝓤; ensures = λ g r e. says κs a r e i }) (met 𝓣 known)

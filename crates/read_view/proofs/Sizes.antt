@@ -1,6 +1,6 @@
 -- A function that asks another for a size of a read view's view (`Size`) meets its contract (`SizeOf`): a walk of its MIR, by hand, over any such callee g. rows and cols are this at
 -- `view::rows` and `view::cols`. The callee names no lifetime, so the token stays with what the struct owns.
-use mathlib.Core.Path.{_≡_, refl}
+use mathlib.Core.Path.{_≡_, refl, subst}
 use Prim.Native.Nat.{ℕ}
 use mathlib.Core.List.{[], _∷_}
 use lib.Dec.{T as Holds}
@@ -11,6 +11,7 @@ use base.Logic.{SProp, ent, sep, emp, via, fst∗, snd∗, exE, id⊢}
 use base.Fml.{Lft, Share, Fml, ftrue, flft}
 use prog.Wp.{Heap, Calls, Loops, WpFn, Tables}
 use ghost.Atoms.{Atoms, sem}
+use contract.Lifetimes.{Lfts}
 use contract.Monad.{fact}
 use types.Kit.{Given, ‵, raw, _⊛_, ⋆, some, later, _$_, _∵_, !, qed, by, move, drop, use1, use2, split, join, pick, fsplit, fjoin, suffices, frame, await, done}
 use types.Part.{whole, sub, look-in}
@@ -25,11 +26,11 @@ use denote.Steps.{nothing, peeks, heard}
 use denote.Struct.Laws as LL
 use denote.Triple.Statement.{Triple}
 use denote.Triple.Call.{calls-at}
-use denote.Triple.Entry.{onEntry}
+use denote.Triple.Entry.{Args, Res, onEntry}
 use denote.Triple.Spec.{Meets}
 use denote.Triple.Walked.{says, Stays, stay-none, walkOf, goes-none, Walks, ends-at, walked, walk-meets}
 use denote.Exit.{yes}
-use denote.Triple.Clauses.{ensured, lasts, closing}
+use denote.Triple.Clauses.{Clauses, AtExit, ensured, lasts, closing}
 use Rattle.view.specs.declared.View.{View}
 use Rattle.view.proofs.View as X
 use Rattle.view.proofs.View.Laws as X′
@@ -113,8 +114,17 @@ module _ (g : Name) (f : View → ℕ) where
         (λ κs. (LL.tells (T.the-type (namedLft 1 0 tt κs)) (T′.the-laws (namedLft 1 0 tt κs)), tt))
         (λ κs qs bounds a g are. via 𝓤 _ (fst∗ 𝓤 _ (emp 𝓤)) (walk (κs .0) (qs .0) (a .0) C Λ framed known (LL.lawful (T.the-type (namedLft 1 0 tt κs)) (T′.the-laws (namedLft 1 0 tt κs)) 𝓤 H A W .typed (a .0) _ (are .0) .0)))
 
-    pub sized-meets : (𝓣 : Tables 𝓤 H) → Triple 𝓤 (𝓣 .C g) (tripled 𝓤 H A Size (size-says 𝓤 f))
+    met : (𝓣 : Tables 𝓤 H) → Triple 𝓤 (𝓣 .C g) (tripled 𝓤 H A Size (size-says 𝓤 f))
         → Meets 𝓤 H A (SizeOf .signature) (WpFn 𝓤 H (𝓣 .C) (𝓣 .Λ) (sized g)) (closing 𝓤 H A SizeOf (size-of-says 𝓤 f))
-    sized-meets 𝓣 known =
+    met 𝓣 known =
         walk-meets 𝓤 H A SizeOf stayed W (goes-none 𝓤 H A W 1 B yes (λ κs x f. refl), tt)
         (size-of-says 𝓤 f) (WpFn 𝓤 H (𝓣 .C) (𝓣 .Λ) (sized g)) (WpFn-mono 𝓤 H (W .laws) 𝓣 (sized g)) (walks (𝓣 .C) (𝓣 .Λ) (fmOf 𝓤 H (W .laws) 𝓣) known)
+
+    -- for a contract whose one clause says that the result is f of the view
+    pub sized-meets : (ensures : (κs : Lfts 1) (a : Args (SizeOf .signature) κs) → Res (SizeOf .signature) κs → AtExit SizeOf κs → SProp 𝓤)
+        → ((κs : Lfts 1) (a : Args (SizeOf .signature) κs) (r : Res (SizeOf .signature) κs) (e : AtExit SizeOf κs) → fact 𝓤 (r ≡ f (a .0 .view)) ≡ ensures κs a r e)
+        → (𝓣 : Tables 𝓤 H) → Triple 𝓤 (𝓣 .C g) (tripled 𝓤 H A Size (size-says 𝓤 f))
+        → Meets 𝓤 H A (SizeOf .signature) (WpFn 𝓤 H (𝓣 .C) (𝓣 .Λ) (sized g)) (closing 𝓤 H A SizeOf (λ κs a. record { ghost = Unit {0}; requires = λ g. emp 𝓤; ensures = λ g. ensures κs a }))
+    sized-meets ensures says 𝓣 known =
+        subst (λ (c : Clauses 𝓤 SizeOf). Meets 𝓤 H A (SizeOf .signature) (WpFn 𝓤 H (𝓣 .C) (𝓣 .Λ) (sized g)) (closing 𝓤 H A SizeOf c))
+        (λ i κs a. record { ghost = Unit {0}; requires = λ g. emp 𝓤; ensures = λ g r e. says κs a r e i }) (met 𝓣 known)

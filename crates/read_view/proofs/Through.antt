@@ -1,7 +1,7 @@
 -- A function of a slab, a view, r and c that makes a read view of the two in a local and passes it to a method (`Method R`) meets its contract (`Element R`): a walk of its MIR, by hand, over any
 -- such method g. element and element_complex are this at get and at get_complex. All that is known of `new` and of g is that each meets its contract.
 -- The machine value that `new` returns is stored and passed on as it is. In a local MIR erases the lifetime of the struct's type, so the value is shown to have the type at `erased`.
-use mathlib.Core.Path.{_≡_, refl, _∙_}
+use mathlib.Core.Path.{_≡_, refl, subst, _∙_}
 use Prim.Native.Nat.{ℕ, _<_, _^_}
 use mathlib.Core.List.{List, [], _∷_}
 use lib.Dec.{T as Holds}
@@ -16,6 +16,7 @@ use prog.Memory.{Memory}
 use prog.Routine.{Routine}
 use prog.Wp.{Heap, Calls, Loops, WpFn, Tables}
 use ghost.Atoms.{Atoms, sem}
+use contract.Lifetimes.{Lfts}
 use contract.Monad.{Fun, fact}
 use types.Kit.{Given, ‵, raw, _⊛_, ⋆, some, later, _$_, _∵_, !, qed, by, move, use1, use2, split, join, pick, fsplit, fjoin, suffices, frame, await, done}
 use types.Run.{look, init, forget, stop, from, load, and-then, no-more, land, returns, enter, alloc1, alloc0, params1, pass1, pass0, free1, free0}
@@ -31,11 +32,11 @@ use denote.Steps.{nothing, owned, peeks, heard}
 use denote.Struct.Laws as LL
 use denote.Triple.Statement.{Contract, Triple}
 use denote.Triple.Call.{calls-at}
-use denote.Triple.Entry.{Vals, onEntry}
+use denote.Triple.Entry.{Args, Res, Vals, onEntry}
 use denote.Triple.Spec.{Meets, tripleOf}
 use denote.Triple.Walked.{says, Stays, stay-none, stay-none-slice, walkOf, goes-none, goes-none-slice, Walks, ends-at, walked, walk-meets}
 use denote.Exit.{yes}
-use denote.Triple.Clauses.{ensured, lasts, closing}
+use denote.Triple.Clauses.{Clauses, AtExit, ensured, lasts, closing}
 use Rattle.view.specs.declared.View.{View}
 use Rattle.view.proofs.View as X
 use Rattle.view.proofs.View.Laws as X′
@@ -168,9 +169,18 @@ module _ (g : Name) (R : RattleType) (τ : Ty) (f : List Float → View → ℕ 
         (λ κs. (shr-slice-tells (named 0) (κs .0) f64, (LL.tells X.the-type X′.the-laws, (uint-tells w64, (uint-tells w64, tt)))))
         (λ κs qs bounds a g are. via 𝓤 _ (fst∗ 𝓤 _ (emp 𝓤)) (walk (κs .0) (qs .0) (a .0) (a .1 .0) (a .1 .1 .0) (a .1 .1 .1 .0) (are .1 .1 .0 .1) (are .1 .1 .1 .0 .1) C Λ framed known-new known-get (are .0) (are .1 .0)))
 
-    pub through-meets : (𝓣 : Tables 𝓤 H) → Triple 𝓤 (𝓣 .C #new) New → Triple 𝓤 (𝓣 .C g) Get
+    met : (𝓣 : Tables 𝓤 H) → Triple 𝓤 (𝓣 .C #new) New → Triple 𝓤 (𝓣 .C g) Get
         → Meets 𝓤 H A (Element R .signature) (WpFn 𝓤 H (𝓣 .C) (𝓣 .Λ) (through g τ)) (closing 𝓤 H A (Element R) (element-says 𝓤 R f))
-    through-meets 𝓣 known-new known-get =
+    met 𝓣 known-new known-get =
         walk-meets 𝓤 H A (Element R) stayed W
         (goes-none-slice 𝓤 H A W 1 (0 ∷ []) tt (plain (λ _. f64)) yes, (goes-none 𝓤 H A W 1 (λ _. X.the-row) yes (λ κs x f. refl), (goes-none 𝓤 H A W 1 (λ _. usize) yes (λ κs x f. refl), (goes-none 𝓤 H A W 1 (λ _. usize) yes (λ κs x f. refl), tt))))
         (element-says 𝓤 R f) (WpFn 𝓤 H (𝓣 .C) (𝓣 .Λ) (through g τ)) (WpFn-mono 𝓤 H (W .laws) 𝓣 (through g τ)) (walks (𝓣 .C) (𝓣 .Λ) (fmOf 𝓤 H (W .laws) 𝓣) known-new known-get)
+
+    -- for a contract whose one clause says that the result is f of the slab, the view, r and c
+    pub through-meets : (ensures : (κs : Lfts 1) (a : Args (Element R .signature) κs) → Res (Element R .signature) κs → AtExit (Element R) κs → SProp 𝓤)
+        → ((κs : Lfts 1) (a : Args (Element R .signature) κs) (r : Res (Element R .signature) κs) (e : AtExit (Element R) κs) → fact 𝓤 (r ≡ f (now (a .0)) (a .1 .0) (a .1 .1 .0) (a .1 .1 .1 .0)) ≡ ensures κs a r e)
+        → (𝓣 : Tables 𝓤 H) → Triple 𝓤 (𝓣 .C #new) New → Triple 𝓤 (𝓣 .C g) Get
+        → Meets 𝓤 H A (Element R .signature) (WpFn 𝓤 H (𝓣 .C) (𝓣 .Λ) (through g τ)) (closing 𝓤 H A (Element R) (λ κs a. record { ghost = Unit {0}; requires = λ g. emp 𝓤; ensures = λ g. ensures κs a }))
+    through-meets ensures says 𝓣 known-new known-get =
+        subst (λ (c : Clauses 𝓤 (Element R)). Meets 𝓤 H A (Element R .signature) (WpFn 𝓤 H (𝓣 .C) (𝓣 .Λ) (through g τ)) (closing 𝓤 H A (Element R) c))
+        (λ i κs a. record { ghost = Unit {0}; requires = λ g. emp 𝓤; ensures = λ g r e. says κs a r e i }) (met 𝓣 known-new known-get)

@@ -21,7 +21,7 @@ readAnswer v n r c =
     cond (isDone (readCheck v n)) (refuse (not (inShape v r c)) OutOfBounds Done) (readCheck v n)
 
 -- the element where the answer is Done, as `number` holds it; else the answer, as `refused` holds it
-abbrev pub readAt : {A : Type 0} (K : Kind) → (K .Elem → A) → (Answer → A) → List (K .Cell) → View → ℕ → ℕ → A
+unfoldable pub readAt : {A : Type 0} (K : Kind) → (K .Elem → A) → (Answer → A) → List (K .Cell) → View → ℕ → ℕ → A
 readAt K number refused s v r c =
     let a = readAnswer v (K .count s) r c in
     cond (isDone a) (number (elem K s v r c)) (refused a)

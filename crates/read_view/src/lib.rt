@@ -63,24 +63,24 @@ fn answer(v: View, len: usize, r: usize, c: usize) -> Answer
 }
 
 // The work: element (r, c) of a slab through a view.
-fn find(slab: &[f64], v: View, r: usize, c: usize) -> Found
-    ensures { λ e. ⌜ e ≡ readAt real64 Found.Number Found.Refused (now (slab .entry)) v r c ⌝ }
+fn find(s: &[f64], v: View, r: usize, c: usize) -> Found
+    ensures { λ e. ⌜ e ≡ readAt real64 Found.Number Found.Refused (now (s .entry)) v r c ⌝ }
 {
-    let a = answer(v, slab.len(), r, c);
+    let a = answer(v, s.len(), r, c);
     if passed(a) {
-        let x = get64(slab, place(v, r, c));
+        let x = get64(s, place(v, r, c));
         Found::Number(x.0)
     } else {
         Found::Refused(a)
     }
 }
 
-fn find_complex(slab: &[f64], v: View, r: usize, c: usize) -> FoundComplex
-    ensures { λ e. ⌜ e ≡ readAt complex FoundComplex.Number FoundComplex.Refused (now (slab .entry)) v r c ⌝ }
+fn find_complex(s: &[f64], v: View, r: usize, c: usize) -> FoundComplex
+    ensures { λ e. ⌜ e ≡ readAt complex FoundComplex.Number FoundComplex.Refused (now (s .entry)) v r c ⌝ }
 {
-    let a = answer(v, slab.len() / 2, r, c);
+    let a = answer(v, s.len() / 2, r, c);
     if passed(a) {
-        let x = get_complex(slab, place(v, r, c));
+        let x = get_complex(s, place(v, r, c));
         FoundComplex::Number(x)
     } else {
         FoundComplex::Refused(a)

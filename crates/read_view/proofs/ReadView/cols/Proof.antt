@@ -1,4 +1,5 @@
 -- `ReadView::cols` meets its contract: the walk of `Sizes`, to `view::cols`.
+use mathlib.Core.Path.{refl}
 use contract.Running.{givenOf, tables, tablesOf}
 use denote.Triple.Spec.{tripleOf}
 use denote.Triple.Table.{entered, cited}
@@ -17,5 +18,5 @@ unfolding code.routine tablesOf
 cols-spec 𝓤 H 𝓜 𝓖 𝓡 =
     entered 𝓤 H (tripleOf 𝓤 H (𝓖 .A) cols.signature (cols.spec 𝓤 H (𝓖 .A) (𝓜 .mem) (𝓡 .run)))
     (tables 𝓤 H 𝓜 𝓡 code.env .C) (tables 𝓤 H 𝓜 𝓡 code.env .Λ) cols-key.name code.function (code.unfolded 𝓤 H 𝓜 𝓡)
-    (sized-meets ask-def.name (λ (v : View). v .cols) 𝓤 H (𝓖 .A) (givenOf 𝓤 H 𝓜 𝓖) (tablesOf 𝓤 H 𝓜 (tables 𝓤 H 𝓜 𝓡 code.env))
+    (sized-meets ask-def.name (λ (v : View). v .cols) 𝓤 H (𝓖 .A) (givenOf 𝓤 H 𝓜 𝓖) (λ κs a. cols.clauses 𝓤 H (𝓖 .A) (𝓜 .mem) (𝓡 .run) κs a .ensures tt) (λ κs a r e. refl) (tablesOf 𝓤 H 𝓜 (tables 𝓤 H 𝓜 𝓡 code.env))
     (cited 𝓤 H (tripleOf 𝓤 H (𝓖 .A) ask.signature (ask.spec 𝓤 H (𝓖 .A) (𝓜 .mem) (𝓡 .run))) 𝓜 𝓡 code.env ask-def.name ask-def.routine code.calls-view·cols (ask-thm.met 𝓤 H 𝓜 𝓖 𝓡)))
