@@ -96,12 +96,12 @@ module _ (K : Kind) (uplo : UpLo) (t : Trans) (alpha : K .Elem) (a b : Lent K) (
   unfolding syr2k
   syr2k-refused h = gives-refusal K _ (c .slab) _ r flag answered told h
 
-  pub syr2k-done : flag ≡ true → (byBeta : K .Elem → K .Elem) (plan : Plan) (after : List (K .Cell)) → byBeta ≡ scaled K beta → plan ≡ syr2kPlan uplo t (a .view) (b .view) (c .view)
-      → after ≡ work K (Syr2k alpha byBeta) plan (a .slab) (b .slab) (c .slab) → Gives K (syr2k K uplo t alpha a b beta c) r after
+  pub syr2k-done : flag ≡ true → (task : Task K) (plan : Plan) (after : List (K .Cell)) → after ≡ work K task plan (a .slab) (b .slab) (c .slab)
+      → task ≡ Syr2k alpha (scaled K beta) → plan ≡ syr2kPlan uplo t (a .view) (b .view) (c .view) → Gives K (syr2k K uplo t alpha a b beta c) r after
   unfolding syr2k
-  syr2k-done passed byBeta plan after scale planned e =
+  syr2k-done passed task plan after e tasked planned =
       gives-work K (work K (Syr2k alpha (scaled K beta)) (syr2kPlan uplo t (a .view) (b .view) (c .view)) (a .slab) (b .slab) (c .slab)) (c .slab) _ r flag after answered told passed
-      (e ∙ as-planned K (ap (Syr2k alpha) scale) planned (a .slab) (b .slab) (c .slab))
+      (e ∙ as-planned K tasked planned (a .slab) (b .slab) (c .slab))
 
 -- ---- her2k
 
@@ -117,9 +117,9 @@ module _ (K : Kind) (uplo : UpLo) (t : Trans) (alpha : K .Elem) (a b : Lent K) (
   unfolding her2k
   her2k-refused h = gives-refusal K _ (c .slab) _ r flag answered told h
 
-  pub her2k-done : flag ≡ true → (byBeta : K .Elem → K .Elem) (plan : Plan) (after : List (K .Cell)) → byBeta ≡ scaledReal K beta → plan ≡ her2kPlan uplo t (a .view) (b .view) (c .view)
-      → after ≡ work K (Her2k alpha byBeta) plan (a .slab) (b .slab) (c .slab) → Gives K (her2k K uplo t alpha a b beta c) r after
+  pub her2k-done : flag ≡ true → (task : Task K) (plan : Plan) (after : List (K .Cell)) → after ≡ work K task plan (a .slab) (b .slab) (c .slab)
+      → task ≡ Her2k alpha (scaledReal K beta) → plan ≡ her2kPlan uplo t (a .view) (b .view) (c .view) → Gives K (her2k K uplo t alpha a b beta c) r after
   unfolding her2k
-  her2k-done passed byBeta plan after scale planned e =
+  her2k-done passed task plan after e tasked planned =
       gives-work K (work K (Her2k alpha (scaledReal K beta)) (her2kPlan uplo t (a .view) (b .view) (c .view)) (a .slab) (b .slab) (c .slab)) (c .slab) _ r flag after answered told passed
-      (e ∙ as-planned K (ap (Her2k alpha) scale) planned (a .slab) (b .slab) (c .slab))
+      (e ∙ as-planned K tasked planned (a .slab) (b .slab) (c .slab))

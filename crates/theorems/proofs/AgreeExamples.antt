@@ -1,11 +1,12 @@
--- The theorems at given slabs. symm with Lower sees nothing above the diagonal, not even a NaN; gemv sees every element.
+-- The theorems at given slabs. symm with Lower sees nothing above the diagonal, not even a NaN; gemv sees every element; trsv with
+-- Lower and Unit sees what is below the diagonal alone.
 use Prim.Native.Nat.{ℕ, zero, suc, _≤_, _<_}
-use mathlib.Core.Bool.{Bool, true, false, _&&_, and-eq-true-iff}
+use mathlib.Core.Bool.{Bool, true, false, not, _&&_, and-eq-true-iff}
 use mathlib.Core.List.{List, [], _∷_}
-use mathlib.Core.Path.{_≡_, refl, sym, subst}
+use mathlib.Core.Path.{_≡_, refl, sym, ap, subst}
 use native.Mathlib.Omega.{arith}
-use borrow.Author.Tests.{leb-true}
-use lib.Dec.{T, lit≤}
+use borrow.Author.Tests.{leb-true, eq-eqb}
+use lib.Dec.{T, eqb, lit≤}
 use lib.Ieee.{Float, binary64, nan, fin, fits, isNan, eq}
 use lib.IntN.{pos}
 use lib.ListN.{length, getD}
@@ -13,15 +14,19 @@ use Rattle.number.specs.Kind.{real64, Same, Finite, finiteFloat}
 use Rattle.view.specs.declared.Trans.the-variants.{NoTrans}
 use Rattle.view.specs.declared.UpLo.the-variants.{Lower}
 use Rattle.view.specs.declared.Side.the-variants.{Left}
+use Rattle.view.specs.declared.Diag.the-variants.{Unit}
 use Rattle.view.specs.Any.{any}
+use Rattle.view.specs.AnyLaws.{and-left, and-right, clash}
 use Rattle.view.specs.Place.{place, index}
 use Rattle.view.specs.Refusals.{tooLarge, outOfBounds}
 use Rattle.slab.specs.Elem.{Lent, lent}
 use Rattle.blas.specs.Matrix.{matrix}
 use Rattle.blas.specs.Gemv.{gemv}
 use Rattle.blas.specs.Symm.{symm}
+use Rattle.blas.specs.Trsv.{trsv}
 use Rattle.theorems.specs.Agreement.{Alike, Others, run, triangle, wholeMatrix, General, Square, Coefficient}
-use Rattle.theorems.proofs.AgreeKinds.{real64-sees}
+use Rattle.theorems.specs.TriangularAgreement.{named, Single, runPlain}
+use Rattle.theorems.proofs.AgreeKinds.{real64-sees, real64-triangles}
 
 -- an odd number as its format writes it
 abbrev odd : ℕ → Float
@@ -149,4 +154,56 @@ one-is-not-three h =
     in
     let e = g .same 0 0 (record { row = lit≤ tt; col = lit≤ tt; named = refl }) in
     let e' : Same real64 (odd 1) (odd 3) = rw (only (odd 1) 0 0 (lit≤ tt) (lit≤ tt), only (odd 3) 0 0 (lit≤ tt) (lit≤ tt)) at e in
+    e' .same
+
+-- ---- [[z, z], [x, z]] by rows: what a lower triangular Unit solve can see of it is x
+
+pub below : Float → Float → Lent real64
+below x z = lent real64 (z ∷ z ∷ x ∷ z ∷ []) (record { start = 0; rows = 2; cols = 2; rs = pos 2; cs = pos 1 })
+
+corner : (i j : ℕ) → i < 2 → named Lower Unit i j ≡ true → (i ≡ 1) × (j ≡ 0)
+corner i j p h =
+    let l = leb-true j i (and-left (triangle Lower i j) (not (eqb i j)) h) in
+    let o : i ≡ j → ⊥ = λ e. clash (and-right (triangle Lower i j) (not (eqb i j)) h) (ap not (eq-eqb i j e)) in
+    (omega arith, omega arith)
+
+below-shows : (x z : Float) (i j : ℕ) → i < 2 → named Lower Unit i j ≡ true → matrix real64 (below x z) i j ≡ x
+unfolding below index place
+below-shows x z i j p h = let e = corner i j p h in λ t. matrix real64 (below x z) (e .0 t) (e .1 t)
+
+below-coefficient : (x z : Float) → fits binary64 x ≡ true → fits binary64 z ≡ true → Finite real64 x → Coefficient real64 Square (named Lower Unit) (below x z)
+unfolding below tooLarge outOfBounds any place
+below-coefficient x z h k f = record {
+  accepted = record { form = refl; not-too-large = refl; not-out-of-bounds = refl };
+  numbers = record { cell = held-cells (z ∷ z ∷ x ∷ z ∷ []) (λ i. k i && (k i && (h i && (k i && true)))) };
+  finite = λ i j n. subst (Finite real64) (sym (below-shows x z i j (n .row) (n .named))) f;
+}
+
+-- no call of trsv tells a diagonal of NaN from one of 99
+pub diagonal-unseen : Alike real64 (Single real64) (runPlain real64 (trsv real64 Lower NoTrans Unit)) (below (odd 3) nan) (below (odd 3) (odd 99))
+unfolding below fits finiteFloat eq isNan
+diagonal-unseen =
+    real64-triangles .trsv-sees Lower NoTrans (below (odd 3) nan) (below (odd 3) (odd 99)) (record { rows = refl; cols = refl })
+    (below-coefficient (odd 3) nan refl refl (record { finite = tt }))
+    (below-coefficient (odd 3) (odd 99) refl refl (record { finite = tt }))
+    .1
+    (record {
+      same = λ i j n.
+          rw (below-shows (odd 3) nan i j (n .row) (n .named), below-shows (odd 3) (odd 99) i j (n .row) (n .named))
+          (record { same = tt });
+    })
+
+-- some call tells a 1 below the diagonal from a 3
+pub below-seen : Alike real64 (Single real64) (runPlain real64 (trsv real64 Lower NoTrans Unit)) (below (odd 1) nan) (below (odd 3) nan) → ⊥
+unfolding below fits finiteFloat eq isNan
+below-seen h =
+    let g =
+    real64-triangles .trsv-sees Lower NoTrans (below (odd 1) nan) (below (odd 3) nan) (record { rows = refl; cols = refl })
+    (below-coefficient (odd 1) nan refl refl (record { finite = tt }))
+    (below-coefficient (odd 3) nan refl refl (record { finite = tt }))
+    .0
+    h
+    in
+    let e = g .same 1 0 (record { row = lit≤ tt; col = lit≤ tt; named = refl }) in
+    let e' : Same real64 (odd 1) (odd 3) = rw (below-shows (odd 1) nan 1 0 (lit≤ tt) refl, below-shows (odd 3) nan 1 0 (lit≤ tt) refl) at e in
     e' .same

@@ -1,16 +1,19 @@
--- What the products can see of A, for f64, f32 and complex numbers.
+-- What the products and the triangular routines can see of A, for f64, f32 and complex numbers.
 use Prim.Native.Nat.{ℕ, _+_, _*_, _/_, _<_}
 use mathlib.Core.Path.{_≡_, ap, _∙_}
 use native.Mathlib.Omega.{arith}
 use lib.Dec.{T}
 use lib.Ieee.{Float, Format, binary32, binary64, nan, fits}
 use lib.ListN.{length, getD, replicate, length-replicate, getD-replicate}
-use Rattle.number.specs.Kind.{zeroFloat, real, real64, real32, complex}
+use Rattle.number.specs.Kind.{Kind, zeroFloat, real, real64, real32, complex}
 use Rattle.number.specs.Laws.{Laws}
 use Rattle.number.proofs.Instances.{real64-laws, real32-laws, complex-laws}
 use Rattle.theorems.specs.Agreement.{ProductsSee}
+use Rattle.theorems.specs.TriangularAgreement.{TrianglesSee}
 use Rattle.theorems.proofs.AgreeUnits.{Zeros}
 use Rattle.theorems.proofs.AgreeRoutines.{products-see}
+use Rattle.theorems.proofs.AgreeTriangularProducts.{trmv-sees, trmm-sees}
+use Rattle.theorems.proofs.AgreeTriangularSolves.{trsv-sees, trsm-sees}
 
 -- ---- slabs of zeros
 
@@ -51,3 +54,20 @@ real32-sees = products-see real32 real32-laws (real-zeros binary32 real32-laws)
 
 pub complex-sees : ProductsSee complex
 complex-sees = products-see complex complex-laws complex-zeros
+
+triangles-see : (K : Kind) → Laws K → Zeros K → TrianglesSee K
+triangles-see K L Z = record {
+  trmv-sees = trmv-sees K L Z;
+  trmm-sees = λ side uplo trans diag. trmm-sees K L Z uplo trans diag side;
+  trsv-sees = trsv-sees K L Z;
+  trsm-sees = λ side uplo trans. trsm-sees K L Z uplo trans side;
+}
+
+pub real64-triangles : TrianglesSee real64
+real64-triangles = triangles-see real64 real64-laws (real-zeros binary64 real64-laws)
+
+pub real32-triangles : TrianglesSee real32
+real32-triangles = triangles-see real32 real32-laws (real-zeros binary32 real32-laws)
+
+pub complex-triangles : TrianglesSee complex
+complex-triangles = triangles-see complex complex-laws complex-zeros

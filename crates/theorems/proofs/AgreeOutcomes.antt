@@ -11,14 +11,17 @@ use Rattle.view.specs.declared.Answer.{Answer}
 use Rattle.view.specs.declared.Answer.the-variants.{Done, TooLarge, OutOfBounds, ShapeMismatch, Overlap, Singular}
 use Rattle.view.specs.Place.{index}
 use Rattle.view.specs.Refusals.{tooLarge, outOfBounds}
-use Rattle.view.specs.Judge.{Arg, arg, judge}
-use Rattle.slab.specs.Elem.{elem}
-use Rattle.slab.specs.Update.{everywhere, update}
+use Rattle.view.specs.JudgeLaws.{small}
+use Rattle.view.specs.Steps.{Accepted}
+use Rattle.view.specs.Judge.{Arg, arg, judge, answerNumber}
+use Rattle.slab.specs.Elem.{Lent, elem}
+use Rattle.slab.specs.Update.{Mask, everywhere, update}
 use Rattle.slab.specs.Distinct.{Inside, Distinct}
 use Rattle.slab.proofs.UpdateLaws.{update-shown, update-same-slab}
 use Rattle.blas.specs.Matrix.{Matrix, accumulate}
-use Rattle.blas.specs.Outcome.{outcome}
-use Rattle.theorems.specs.Agreement.{SameOutcome}
+use Rattle.blas.specs.Outcome.{Outcome, outcome}
+use Rattle.blas.specs.Substitution.{attempt}
+use Rattle.theorems.specs.Agreement.{SameOutcome, Coefficient}
 use Rattle.theorems.proofs.AgreeSums.{scaled-cong, written}
 
 -- the target's slab after a product
@@ -53,6 +56,13 @@ module _ (K : Kind) (L : Laws K) (v : View) (s : List (K .Cell)) (within : Insid
 
 -- ---- the same answer
 
+-- what a coefficient matrix brings to a check
+pub accepted-view : (K : Kind) (Form : View → Type 0) (names : Mask) (a : Lent K) → Coefficient K Form names a →
+    Accepted (a .view) (K .count (a .slab))
+accepted-view K Form names a h =
+    let s = small (a .view) (h .accepted .not-too-large) in
+    record { rows-le = s .0; cols-le = s .1; fits = h .accepted .not-out-of-bounds }
+
 -- a call is judged alike with either of two first views that draw neither refusal 1 nor 2
 pub judge-same : (v v' : View) (n n' : ℕ) (rest : List Arg) (shapes shapes' : Bool) (target : View) → tooLarge v ≡ false → tooLarge v' ≡ false →
     outOfBounds v n ≡ false → outOfBounds v' n' ≡ false → shapes ≡ shapes' →
@@ -60,19 +70,39 @@ pub judge-same : (v v' : View) (n n' : ℕ) (rest : List Arg) (shapes shapes' : 
 unfolding judge
 judge-same v v' n n' rest shapes shapes' target l l' o o' e = rw (l, l', o, o', e)
 
-module _ (K : Kind) (work work' lent : List (K .Cell)) where
-  -- refused alike, or done with the same numbers
-  pub outcome-same : (check check' : Answer) → check ≡ check' → SameSlab K lent lent → (check ≡ Done → SameSlab K work work') →
-      SameOutcome K (outcome K check work lent) (outcome K check' work' lent)
-  outcome-same check check' e r h = subst (λ (c : Answer). SameOutcome K (outcome K check work lent) (outcome K c work' lent)) e (at check h)
+-- the outcome of work that is done whenever the call is not refused
+abbrev pub worked : (K : Kind) → List (K .Cell) → Outcome K
+worked K work = record { answer = answerNumber Done; slab = work }
+
+module _ (K : Kind) (lent : List (K .Cell)) where
+  -- refused alike, or the work with the same outcome
+  pub attempt-same : (work work' : Outcome K) (check check' : Answer) → check ≡ check' → SameSlab K lent lent →
+      (check ≡ Done → SameOutcome K work work') → SameOutcome K (attempt K check work lent) (attempt K check' work' lent)
+  attempt-same work work' check check' e r h =
+      subst (λ (c : Answer). SameOutcome K (attempt K check work lent) (attempt K c work' lent)) e (at check h)
     where
-      at : (c : Answer) → (c ≡ Done → SameSlab K work work') → SameOutcome K (outcome K c work lent) (outcome K c work' lent)
-      at Done h = record { answer = refl; slab = h refl }
+      at : (c : Answer) → (c ≡ Done → SameOutcome K work work') → SameOutcome K (attempt K c work lent) (attempt K c work' lent)
+      at Done h = h refl
       at TooLarge h = record { answer = refl; slab = r }
       at OutOfBounds h = record { answer = refl; slab = r }
       at ShapeMismatch h = record { answer = refl; slab = r }
       at Overlap h = record { answer = refl; slab = r }
       at Singular h = record { answer = refl; slab = r }
+
+  pub outcome-attempt : (work : List (K .Cell)) (check : Answer) → outcome K check work lent ≡ attempt K check (worked K work) lent
+  outcome-attempt work Done = refl
+  outcome-attempt work TooLarge = refl
+  outcome-attempt work OutOfBounds = refl
+  outcome-attempt work ShapeMismatch = refl
+  outcome-attempt work Overlap = refl
+  outcome-attempt work Singular = refl
+
+  -- refused alike, or done with the same numbers
+  pub outcome-same : (work work' : List (K .Cell)) (check check' : Answer) → check ≡ check' → SameSlab K lent lent →
+      (check ≡ Done → SameSlab K work work') → SameOutcome K (outcome K check work lent) (outcome K check' work' lent)
+  outcome-same work work' check check' e r h =
+      rw (outcome-attempt work check, outcome-attempt work' check')
+      (attempt-same (worked K work) (worked K work') check check' e r (λ d. record { answer = refl; slab = h d }))
 
 module _ (K : Kind) (L : Laws K) (v : View) (s : List (K .Cell)) (product product' : Matrix K) where
   pub done-same : (alpha beta : K .Elem) → ((i j : ℕ) → i < v .rows → j < v .cols → Same K (product i j) (product' i j)) →

@@ -20,7 +20,7 @@ use Rattle.blas.specs.Outcome.{outcome}
 use Rattle.theorems.specs.Agreement.{Product, run, Others, Alike, SameShape, Agree, Coefficient, Sees}
 use Rattle.theorems.proofs.AgreeSums.{Picks, sum-cong, pick-left, pick-right}
 use Rattle.theorems.proofs.AgreeReadings.{Faithful, same-shown, reading-same, reading-holds, reading-finite}
-use Rattle.theorems.proofs.AgreeOutcomes.{done, Value, judge-same, outcome-same, done-same, tells}
+use Rattle.theorems.proofs.AgreeOutcomes.{done, Value, accepted-view, judge-same, outcome-same, done-same, tells}
 use Rattle.theorems.proofs.AgreeUnits.{Fair, Zeros, UnitIn, unitSlab, unit-count, unit-picks, shot, accepted-inside, accepted-distinct}
 
 -- ---- A on a side of the other factor
@@ -149,11 +149,6 @@ module _ (K : Kind) (L : Laws K) (f : Routine K) (Form : View → Type 0) (names
   abbrev read : Lent K → Matrix K
   read a = f .reading (matrix K a)
 
-  accepted-view : (a : Lent K) → Coefficient K Form names a → Accepted (a .view) (K .count (a .slab))
-  accepted-view a h =
-      let s = small (a .view) (h .accepted .not-too-large) in
-      record { rows-le = s .0; cols-le = s .1; fits = h .accepted .not-out-of-bounds }
-
   -- with a unit vector beside it, the product shows the reading's element
   value : (a : Lent K) → Coefficient K Form names a → (x y : View) → f .shapes (a .view) x y ≡ true → (r : Matrix K) (i j q : ℕ) →
       i < f .written y .rows → j < f .written y .cols → q < f .terms (a .view) y → Picks K (f .terms (a .view) y) q (beside K (f .side) r i j) →
@@ -199,7 +194,7 @@ module _ (K : Kind) (L : Laws K) (f : Routine K) (Form : View → Type 0) (names
           passed-judge _ _ _
           (record {
             each = (
-              accepted-view d cd,
+              accepted-view K Form names d cd,
               (
                 subst (Accepted (b .rhs)) (sym (unit-count K L Z terms q)) (b .rhs-fair .accepted),
                 (subst (Accepted (b .target)) (sym (Z .count (b .m))) (b .target-fair .accepted), tt),
@@ -265,7 +260,7 @@ module _ (K : Kind) (L : Laws K) (f : Routine K) (Form : View → Type 0) (names
           let t = f .written c in
           let args = arg (a .view) (K .count (a .slab)) ∷ arg b (K .count (o .rhs .slab)) ∷ arg c (K .count (o .target .slab)) ∷ [] in
           let n = f .terms (a .view) c in
-          outcome-same K _ _ (o .target .slab) _ _
+          outcome-same K (o .target .slab) _ _ _ _
           (judge-same (a .view) (a' .view) _ _ _ _ _ c
           (ca .accepted .not-too-large)
           (ca' .accepted .not-too-large)

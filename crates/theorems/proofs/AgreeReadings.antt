@@ -45,7 +45,7 @@ pub record Faithful (K : Kind) (names : Mask) (v : View) (m n : ℕ) (reading : 
 -- ---- what holds of a reading by what it shows
 
 module _ (K : Kind) (L : Laws K) (reading : Matrix K → Matrix K) (i p r c : ℕ) where
-  shows-same : Shows K reading i p r c → (a a' : Matrix K) → Same K (a r c) (a' r c) → Same K (reading a i p) (reading a' i p)
+  pub shows-same : Shows K reading i p r c → (a a' : Matrix K) → Same K (a r c) (a' r c) → Same K (reading a i p) (reading a' i p)
   shows-same (plain e) a a' h = rw (e a, e a') h
   shows-same (conjugated e) a a' h = rw (e a, e a') (L .conj-cong h)
 
@@ -53,11 +53,11 @@ module _ (K : Kind) (L : Laws K) (reading : Matrix K → Matrix K) (i p r c : �
   same-shown (plain e) a a' h = rw (e a, e a') at h
   same-shown (conjugated e) a a' h = L .conj-same (rw (e a, e a') at h)
 
-  shows-holds : Shows K reading i p r c → (a : Matrix K) → Holds K (a r c) → Holds K (reading a i p)
+  pub shows-holds : Shows K reading i p r c → (a : Matrix K) → Holds K (a r c) → Holds K (reading a i p)
   shows-holds (plain e) a h = rw (e a) h
   shows-holds (conjugated e) a h = rw (e a) (L .conj-holds h)
 
-  shows-finite : Shows K reading i p r c → (a : Matrix K) → Finite K (a r c) → Finite K (reading a i p)
+  pub shows-finite : Shows K reading i p r c → (a : Matrix K) → Finite K (a r c) → Finite K (reading a i p)
   shows-finite (plain e) a h = rw (e a) h
   shows-finite (conjugated e) a h = rw (e a) (L .conj-finite h)
 

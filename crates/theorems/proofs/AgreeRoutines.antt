@@ -46,7 +46,7 @@ op-le NoTrans v p q = (p, q)
 op-le Transposed v p q = (q, p)
 op-le ConjTrans v p q = (q, p)
 
-shaped-as : (v : View) (m n : ℕ) → v .rows ≡ m → v .cols ≡ n → shaped v m n ≡ true
+pub shaped-as : (v : View) (m n : ℕ) → v .rows ≡ m → v .cols ≡ n → shaped v m n ≡ true
 shaped-as v m n p q = and-both (eqb (v .rows) m) (eqb (v .cols) n) (eq-eqb (v .rows) m p) (eq-eqb (v .cols) n q)
 
 zero-below-one : 0 < 1
@@ -55,7 +55,7 @@ zero-below-one = lit≤ tt
 below-one : (j : ℕ) → j < 1 → j ≡ 0
 below-one j h = omega arith
 
-vector-line : (n : ℕ) → vectorOf (line n 1) n ≡ true
+pub vector-line : (n : ℕ) → vectorOf (line n 1) n ≡ true
 unfolding vectorOf
 vector-line n = and-both (isVector (line n 1)) (eqb (vecLength (line n 1)) n) (line-vector n) (eq-eqb (n * 1) n (mul-one n))
 

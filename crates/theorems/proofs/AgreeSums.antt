@@ -1,13 +1,13 @@
 -- Sums of numbers that are the same are the same, and a sum of products with a unit vector picks one element.
 use Prim.Native.Nat.{ℕ, zero, suc, _<_}
 use mathlib.Core.Bool.{Bool, true, false, cond}
-use mathlib.Core.Path.{_≡_, sym, subst}
+use mathlib.Core.Path.{_≡_, refl, sym, subst}
 use native.Mathlib.Decide.{ℕ-discrete}
 use native.Mathlib.Omega.{arith}
 use Rattle.number.specs.Kind.{Kind, Same, Holds, Finite}
 use Rattle.number.specs.Laws.{Laws}
 use Rattle.number.specs.Scaling.{scaled}
-use Rattle.blas.specs.Matrix.{sum}
+use Rattle.blas.specs.Matrix.{sum, sumOver}
 
 -- e is ONE at j and ZERO elsewhere, below n
 pub record Picks (K : Kind) (n j : ℕ) (e : ℕ → K .Elem) : Type 0 where
@@ -60,6 +60,51 @@ module _ (K : Kind) (L : Laws K) where
       sum-one n j (λ p. K .mul (e p) (l p)) (l j) h v
       (L .same-trans (L .mul-cong (u .here) (L .same-refl (l j))) (L .one-mul v (f j h)))
       (λ p q o. L .same-trans (L .mul-cong (u .other p q o) (L .same-refl (l p))) (L .zero-mul (f p q)))
+
+  -- ---- sums over admitted indices
+
+  sum-holds : (n : ℕ) (f : ℕ → K .Elem) → Holds K (sum K n f)
+  unfolding sum
+  sum-holds zero f = L .zero-holds
+  sum-holds (suc n) f = L .add-holds (sum K n f) (f n)
+
+  -- a skipped term is as good as ZERO
+  over-sum : (n : ℕ) (admits : ℕ → Bool) (f : ℕ → K .Elem) → Same K (sumOver K n admits f) (sum K n (λ p. cond (admits p) (f p) (K .zero)))
+  unfolding sum sumOver
+  over-sum zero admits f = L .same-refl (K .zero)
+  over-sum (suc n) admits f = at (admits n) (over-sum n admits f)
+    where
+      before : K .Elem
+      before = sum K n (λ p. cond (admits p) (f p) (K .zero))
+
+      at : (b : Bool) → Same K (sumOver K n admits f) before →
+          Same K (cond b (K .add (sumOver K n admits f) (f n)) (sumOver K n admits f)) (K .add before (cond b (f n) (K .zero)))
+      at true h = L .add-cong h (L .same-refl (f n))
+      at false h = L .same-trans h (L .same-sym (L .add-zero (sum-holds n (λ p. cond (admits p) (f p) (K .zero)))))
+
+  -- terms that are the same where they are admitted
+  pub over-same : (n : ℕ) (admits : ℕ → Bool) (f g : ℕ → K .Elem) → ((p : ℕ) → p < n → admits p ≡ true → Same K (f p) (g p)) →
+      Same K (sumOver K n admits f) (sumOver K n admits g)
+  over-same n admits f g h =
+      L .same-trans (over-sum n admits f)
+      (L .same-trans (sum-like n _ _ (λ p l. at p (admits p) (h p l))) (L .same-sym (over-sum n admits g)))
+    where
+      at : (p : ℕ) (b : Bool) → (b ≡ true → Same K (f p) (g p)) → Same K (cond b (f p) (K .zero)) (cond b (g p) (K .zero))
+      at p true h = h refl
+      at p false h = L .same-refl (K .zero)
+
+  -- one admitted term is x, and every other is zero
+  pub over-one : (n j : ℕ) (admits : ℕ → Bool) (f : ℕ → K .Elem) (x : K .Elem) → j < n → admits j ≡ true → Holds K x → Same K (f j) x →
+      ((p : ℕ) → p < n → admits p ≡ true → (p ≡ j → ⊥) → Same K (f p) (K .zero)) → Same K (sumOver K n admits f) x
+  over-one n j admits f x l m v e z =
+      L .same-trans (over-sum n admits f)
+      (sum-one n j (λ p. cond (admits p) (f p) (K .zero)) x l v
+      (subst (λ (b : Bool). Same K (cond b (f j) (K .zero)) x) (sym m) e)
+      (λ p q o. at p (admits p) (λ a. z p q a o)))
+    where
+      at : (p : ℕ) (b : Bool) → (b ≡ true → Same K (f p) (K .zero)) → Same K (cond b (f p) (K .zero)) (K .zero)
+      at p true h = h refl
+      at p false h = L .same-refl (K .zero)
 
   -- scaling by one beta
   pub scaled-cong : (beta : K .Elem) {x y : K .Elem} → Same K x y → Same K (scaled K beta x) (scaled K beta y)

@@ -22,5 +22,12 @@ pub mod AgreeOutcomes
 pub mod AgreeUnits
 pub mod AgreeProducts
 pub mod AgreeRoutines
+pub mod AgreeCoefficients
+pub mod AgreeStrips
+pub mod AgreeSingles
+pub mod AgreeTriangularProducts
+pub mod AgreeDifferences
+pub mod AgreeSolves
+pub mod AgreeTriangularSolves
 pub mod AgreeKinds
 pub mod AgreeExamples

@@ -1,6 +1,8 @@
--- What the theorems state: Exactness, ExactProducts, ExactRank and ExactTriangles on whole numbers, Agreement on what a routine can see of a matrix.
+-- What the theorems state: Exactness, ExactProducts, ExactRank and ExactTriangles on whole numbers, Agreement and TriangularAgreement on what a
+-- routine can see of a matrix.
 pub mod Exactness
 pub mod ExactProducts
 pub mod ExactRank
 pub mod ExactTriangles
 pub mod Agreement
+pub mod TriangularAgreement

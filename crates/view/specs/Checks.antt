@@ -1,8 +1,9 @@
 -- Each routine's shape rule from the BLAS papers, and its check: its views in the Rust's argument order, the rule, the target.
-use mathlib.Core.Bool.{Bool, _&&_}
+use mathlib.Core.Bool.{Bool, true, _&&_}
 use mathlib.Core.List.{[], _∷_}
 use Prim.Native.Nat.{ℕ}
 use lib.Dec.{eqb}
+use lib.IntN.{pos}
 use Rattle.view.specs.declared.View.{View}
 use Rattle.view.specs.declared.Answer.{Answer}
 use Rattle.view.specs.declared.Trans.{Trans}
@@ -112,3 +113,11 @@ trmmCheck side a la b lb = judge (arg a la ∷ arg b lb ∷ []) (trmmShape side 
 
 abbrev pub trsmCheck : Side → View → ℕ → View → ℕ → Answer
 trsmCheck side a la b lb = judge (arg a la ∷ arg b lb ∷ []) (trmmShape side a b) b
+
+-- a view of no elements: the target of a call that writes nothing
+abbrev pub noTarget : View
+noTarget = record { start = 0; rows = 0; cols = 0; rs = pos 0; cs = pos 0 }
+
+-- a view that is only read, by itself: refusals 1 and 2
+abbrev pub readCheck : View → ℕ → Answer
+readCheck v n = judge (arg v n ∷ []) true noTarget

@@ -79,6 +79,20 @@ pub fn refuse3(a: View, la: usize, b: View, lb: usize, c: View, lc: usize) -> An
     judge3(a, la, b, lb, c, lc, false)
 }
 
+// A view that is only read, by itself: no shape rule looks at it, and nothing is written.
+pub fn check_read(v: View, len: usize) -> Answer
+    ensures { λ r. ⌜ r ≡ specs.readCheck v len ⌝ }
+{
+    let none = View {
+        start: 0,
+        rows: 0,
+        cols: 0,
+        rs: 0,
+        cs: 0,
+    };
+    lowest(too_large(v), out_of_bounds(v, len), false, none)
+}
+
 pub fn check_gemv(t: Trans, a: View, la: usize, x: View, lx: usize, y: View, ly: usize) -> Answer
     ensures { λ r. ⌜ r ≡ specs.gemvCheck t a la x lx y ly ⌝ }
 {

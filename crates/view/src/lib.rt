@@ -25,6 +25,7 @@ pub use checks::check_her;
 pub use checks::check_her2;
 pub use checks::check_her2k;
 pub use checks::check_herk;
+pub use checks::check_read;
 pub use checks::check_symm;
 pub use checks::check_syr2k;
 pub use checks::check_syrk;

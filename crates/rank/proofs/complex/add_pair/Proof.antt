@@ -1,5 +1,6 @@
 use Rattle.number.specs.Kind.{complex}
 use Rattle.rank.proofs.Inside.{first-factors, second-factors}
+use Rattle.rank.proofs.Laws.{two-added}
 use borrow.Author.Needs.{needs}
 use Rattle.rank.proofs.complex.add_pair.Statement.{statement}
 use Rattle.rank.proofs.complex.add_pair.Tie as tie
@@ -17,7 +18,7 @@ add-requires-2 : tie.Need-add-requires-2
 add-requires-2 c κs = search needs
 
 returns : tie.Need-returns
-returns c = rw (c .add2 .ensures, c .before .add .ensures, c .before .before .before .product .ensures, c .before .before .product2 .ensures)
+returns c = two-added complex _ _ _ _ _ _ _ (c .before .before .before .product .ensures) (c .before .before .product2 .ensures) (c .before .add .ensures) (c .add2 .ensures)
 
 pub add-pair-spec : {M : Type 1} → statement M
 add-pair-spec =

@@ -1,4 +1,7 @@
+use denote.Ref.{now}
 use Rattle.rank.proofs.Inside.{first-factors, second-factors}
+use Rattle.number.specs.Kind.{real32}
+use Rattle.rank.proofs.Laws.{her2-changed}
 use native.Mathlib.Omega.{arith}
 use borrow.Author.Needs.{needs}
 use Rattle.rank.proofs.real32.changed.Statement.{statement}
@@ -56,7 +59,7 @@ returns : tie.Need-returns
 returns c = rw (c .before .before .before .task .given .1) (rw (c .add .ensures, c .before .product .ensures))
 
 returns-2 : tie.Need-returns-2
-returns-2 c = rw (c .before .before .before .task2 .given .1) (rw (c .add-pair .ensures, c .before .conj .ensures))
+returns-2 c = let p = c .before .before .before .before .before .before .before .args in rw (c .before .before .before .task2 .given .1) (her2-changed real32 _ _ (p .plan) (now (p .a)) (now (p .b)) (p .i) (p .j) (p .old .0) _ (c .before .conj .ensures) (c .add-pair .ensures))
 
 returns-3 : tie.Need-returns-3
 returns-3 c = rw (c .before .before .before .before .before .task3 .given .1) (rw (c .add2 .ensures, c .before .mul .ensures, c .before .before .scale .ensures, c .before .before .before .pair-sum .ensures))

@@ -1,0 +1,22 @@
+-- `ReadView::cols` meets its contract: the walk of `Sizes`, to `view::cols`.
+use mathlib.Core.Path.{refl}
+use contract.Running.{givenOf, tables, tablesOf}
+use denote.Triple.Spec.{tripleOf}
+use denote.Triple.Table.{entered, cited}
+use Rattle.view.specs.declared.View.{View}
+use Rattle.view.proofs.cols as ask
+use Rattle.view.proofs.cols.Symbol as ask-def
+use Rattle.view.proofs.cols.Met as ask-thm
+use Rattle.read_view.proofs.Sizes.{sized-meets}
+use Rattle.read_view.proofs.ReadView.cols.Key as cols-key
+use Rattle.read_view.proofs.ReadView.cols as cols
+use Rattle.read_view.proofs.ReadView.cols.Statement as stated
+use Rattle.read_view.proofs.ReadView.cols.Code as code
+
+pub cols-spec : {M : Type 1} → stated.statement M
+unfolding code.routine tablesOf
+cols-spec 𝓤 H 𝓜 𝓖 𝓡 =
+    entered 𝓤 H (tripleOf 𝓤 H (𝓖 .A) cols.signature (cols.spec 𝓤 H (𝓖 .A) (𝓜 .mem) (𝓡 .run)))
+    (tables 𝓤 H 𝓜 𝓡 code.env .C) (tables 𝓤 H 𝓜 𝓡 code.env .Λ) cols-key.name code.function (code.unfolded 𝓤 H 𝓜 𝓡)
+    (sized-meets ask-def.name (λ (v : View). v .cols) 𝓤 H (𝓖 .A) (givenOf 𝓤 H 𝓜 𝓖) (λ κs a. cols.clauses 𝓤 H (𝓖 .A) (𝓜 .mem) (𝓡 .run) κs a .ensures tt) (λ κs a r e. refl) (tablesOf 𝓤 H 𝓜 (tables 𝓤 H 𝓜 𝓡 code.env))
+    (cited 𝓤 H (tripleOf 𝓤 H (𝓖 .A) ask.signature (ask.spec 𝓤 H (𝓖 .A) (𝓜 .mem) (𝓡 .run))) 𝓜 𝓡 code.env ask-def.name ask-def.routine code.calls-view·cols (ask-thm.met 𝓤 H 𝓜 𝓖 𝓡)))

@@ -1,0 +1,2 @@
+-- What reading an element of a view finds.
+pub mod Read
