@@ -1,6 +1,6 @@
 -- Sums taken in runs: how long a run is, what it adds, and that a run's terms are those of the product.
 use Prim.Native.Nat.{ℕ, zero, suc, _+_, _≤_, _<_, _-_}
-use mathlib.Core.Bool.{Bool, true, false, cond}
+use mathlib.Core.Bool.{Bool, true, false, cond, _&&_}
 use mathlib.Core.List.{List}
 use mathlib.Core.Path.{_≡_, refl, sym, ap, subst, _∙_}
 use native.Mathlib.Numerals.{add-one}
@@ -15,6 +15,7 @@ use Rattle.view.specs.declared.Trans.the-variants.{NoTrans, Trans as Transposed
 use Rattle.view.specs.Place.{transposedOf}
 use Rattle.view.specs.declared.UpLo.{UpLo}
 use Rattle.view.specs.Triangle.{inTriangle}
+use Rattle.view.specs.AnyLaws.{clash}
 use Rattle.view.specs.TransposeLaws.{transposed-accepted}
 use Rattle.view.specs.Steps.{Accepted}
 use Rattle.slab.specs.Elem.{elem, Shows}
@@ -23,7 +24,7 @@ use Rattle.blas.proofs.OpLaws.{transposed-elem}
 use Rattle.product.specs.declared.plan.Reading.{Reading}
 use Rattle.product.specs.declared.plan.Reading.the-variants.{Op, Symmetric, Hermitian}
 use Rattle.product.specs.declared.plan.Turn.{Turn}
-use Rattle.product.specs.Plan.{reading, mirrored, opTurn, turnOf, turnedView, Readable, Factors}
+use Rattle.product.specs.Plan.{reading, mirrored, opTurn, turnOf, turnedView, isOp, Readable, Factors}
 use Rattle.product.specs.Runs.{Steady, more, plain, Spans, Alike}
 
 either : {A : Type 0} (b : Bool) (x : A) → x ≡ cond b x x
@@ -137,13 +138,6 @@ more-next K f g x from k acc u v m next e eu ev em en =
 
 -- ---- the terms of a run
 
-module _ (va : View) (la : ℕ) (vb : View) (lb i j from n : ℕ) (h : Spans va la vb lb i j from n) (k : ℕ) (l : k < n) where
-  pub left-shows : Shows va la i (from + k)
-  left-shows = record { fits = h .a; row = h .row; col = omega (arith, h .left) }
-
-  pub right-shows : Shows vb lb (from + k) j
-  right-shows = record { fits = h .b; row = omega (arith, h .right); col = h .col }
-
 -- an operand's element through the view that its turn says
 turn-reading : (K : Kind) (m : Reading) (s : List (K .Cell)) (v : View) (i j : ℕ) →
     plain K (turnOf m i j .conjugated) s (turnedView (turnOf m i j .transposed) v) i j ≡ reading K m (elem K s v) i j
@@ -174,25 +168,25 @@ turned-accepted : (t : Bool) (v : View) (len : ℕ) → Accepted v len → Accep
 turned-accepted true v len a = transposed-accepted v len a
 turned-accepted false v len a = a
 
+-- an element that may be read is shown by the view through which it is read
+turned-shows : {m : Reading} (v : View) (len : ℕ) (w : View) (i j : ℕ) (t : Bool) → w ≡ turnedView t v → turnOf m i j .transposed ≡ t → Readable m v len i j
+    → Shows w len i j
+turned-shows v len w i j t ew et h =
+    let e : turnedView (turnOf _ i j .transposed) v ≡ w = ap (λ (b : Bool). turnedView b v) et ∙ sym ew in
+    record {
+      fits = subst (λ (u : View). Accepted u len) (sym ew) (turned-accepted t v len (h .fits));
+      row = subst (λ (u : View). i < u .rows) e (h .row);
+      col = subst (λ (u : View). j < u .cols) e (h .col);
+    }
+
 module _ (l : Reading) (va : View) (la : ℕ) (r : Reading) (vb : View) (lb i j from n : ℕ) (tl tr : Turn) (wa wb : View)
     (el : tl ≡ turnOf l i from) (er : tr ≡ turnOf r from j) (ea : wa ≡ turnedView (tl .transposed) va) (eb : wb ≡ turnedView (tr .transposed) vb)
     (h : Alike l va la r vb lb i j from n) where
   pub alike-spans : Spans wa la wb lb i j from n
   alike-spans =
-      let last : n - 1 < n = omega (arith, h .some) in
-      let x = h .left (n - 1) last in
-      let y = h .right (n - 1) last in
-      let fa : turnedView (turnOf l i (from + (n - 1)) .transposed) va ≡ wa = ap (λ (t : Turn). turnedView (t .transposed) va) (h .left-same (n - 1) last ∙ sym el) ∙ sym ea in
-      let fb : turnedView (turnOf r (from + (n - 1)) j .transposed) vb ≡ wb = ap (λ (t : Turn). turnedView (t .transposed) vb) (h .right-same (n - 1) last ∙ sym er) ∙ sym eb in
-      let ca : from + (n - 1) < wa .cols = subst (λ (w : View). from + (n - 1) < w .cols) fa (x .col) in
-      let rb : from + (n - 1) < wb .rows = subst (λ (w : View). from + (n - 1) < w .rows) fb (y .row) in
       record {
-        a = subst (λ (w : View). Accepted w la) (sym ea) (turned-accepted (tl .transposed) va la (x .fits));
-        b = subst (λ (w : View). Accepted w lb) (sym eb) (turned-accepted (tr .transposed) vb lb (y .fits));
-        row = subst (λ (w : View). i < w .rows) fa (x .row);
-        col = subst (λ (w : View). j < w .cols) fb (y .col);
-        left = omega (arith, h .some);
-        right = omega (arith, h .some);
+        left = λ q g. turned-shows va la wa i (from + q) (tl .transposed) ea (ap (λ (t : Turn). t .transposed) (h .left-same q g ∙ sym el)) (h .left q g);
+        right = λ q g. turned-shows vb lb wb (from + q) j (tr .transposed) eb (ap (λ (t : Turn). t .transposed) (h .right-same q g ∙ sym er)) (h .right q g);
       }
 
   pub alike-more : (K : Kind) (a b : List (K .Cell)) (x : K .Elem) →
@@ -220,9 +214,35 @@ pub run-alike : (l : Reading) (va : View) (la : ℕ) (r : Reading) (vb : View) (
     → Steady (λ q. turnOf l i q) p n k → Steady (λ q. turnOf r q j) p n k → Alike l va la r vb lb i j p k
 run-alike l va la r vb lb n i j p k f g h =
     record {
-      some = g .some;
       left = λ q l. f .left (p + q) (omega (arith, g .room));
       right = λ q l. f .right (p + q) (omega (arith, g .room));
       left-same = g .same;
       right-same = h .same;
     }
+
+-- the whole sum at once, of operands that are read alike in all elements
+op-steady : (m : Reading) (i j i′ j′ : ℕ) → isOp m ≡ true → turnOf m i j ≡ turnOf m i′ j′
+unfolding turnOf
+op-steady (Op t) i j i′ j′ e = refl
+op-steady (Symmetric uplo) i j i′ j′ e = absurd (clash e refl)
+op-steady (Hermitian uplo) i j i′ j′ e = absurd (clash e refl)
+
+pub straight-alike : (l : Reading) (va : View) (la : ℕ) (r : Reading) (vb : View) (lb n i j : ℕ) → Factors l va la r vb lb n i j → (s : Bool)
+    → s ≡ (isOp l && isOp r) → s ≡ true → Alike l va la r vb lb i j 0 n
+straight-alike l va la r vb lb n i j f s e h =
+    let b = both (isOp l) (isOp r) (sym e ∙ h) in
+    record {
+      left = λ q g. f .left (0 + q) (omega arith);
+      right = λ q g. f .right (0 + q) (omega arith);
+      left-same = λ q g. op-steady l i (0 + q) i 0 (b .0);
+      right-same = λ q g. op-steady r (0 + q) j 0 j (b .1);
+    }
+  where
+    both : (x y : Bool) → (x && y) ≡ true → (x ≡ true) × (y ≡ true)
+    both true y e = (refl, e)
+    both false y e = absurd (clash e refl)
+
+pub sum-whole : (K : Kind) (f : ℕ → K .Elem) (x y : K .Elem) (n : ℕ) → x ≡ sum K 0 f → y ≡ more K x f 0 n → y ≡ sum K n f
+sum-whole K f x y n e h =
+    let z : 0 + n ≡ n = omega arith in
+    subst (λ (m : ℕ). y ≡ sum K m f) z (sum-more K f x y 0 n e h)

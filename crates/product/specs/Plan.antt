@@ -51,6 +51,12 @@ turnOf (Op t) i j = opTurn t
 turnOf (Symmetric uplo) i j = mirrored false (inTriangle uplo i j)
 turnOf (Hermitian uplo) i j = mirrored true (inTriangle uplo i j)
 
+-- all its elements are read alike
+abbrev pub isOp : Reading → Bool
+isOp (Op t) = true
+isOp (Symmetric uplo) = false
+isOp (Hermitian uplo) = false
+
 abbrev pub turnedView : Bool → View → View
 turnedView t v = cond t (transposedOf v) v
 

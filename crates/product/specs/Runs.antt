@@ -5,8 +5,7 @@ use mathlib.Core.List.{List}
 use mathlib.Core.Path.{_≡_}
 use Rattle.number.specs.Kind.{Kind}
 use Rattle.view.specs.declared.View.{View}
-use Rattle.view.specs.Steps.{Accepted}
-use Rattle.slab.specs.Elem.{elem}
+use Rattle.slab.specs.Elem.{elem, Shows}
 use Rattle.product.specs.declared.plan.Reading.{Reading}
 use Rattle.product.specs.Plan.{turnOf, Readable}
 
@@ -27,16 +26,11 @@ plain K conjugated s v i j = cond conjugated (K .conj (elem K s v i j)) (elem K 
 
 -- row i of one view and column j of another, n elements from `from` on, are inside their slabs
 pub record Spans (va : View) (la : ℕ) (vb : View) (lb i j from n : ℕ) : Type 0 where
-  pub a : Accepted va la
-  pub b : Accepted vb lb
-  pub row : i < va .rows
-  pub col : j < vb .cols
-  pub left : from + n ≤ va .cols
-  pub right : from + n ≤ vb .rows
+  pub left : (q : ℕ) → q < n → Shows va la i (from + q)
+  pub right : (q : ℕ) → q < n → Shows vb lb (from + q) j
 
 -- the n terms of a product from `from` on are inside their slabs, and each operand's are read alike
 pub record Alike (l : Reading) (va : View) (la : ℕ) (r : Reading) (vb : View) (lb i j from n : ℕ) : Type 0 where
-  pub some : 0 < n
   pub left : (q : ℕ) → q < n → Readable l va la i (from + q)
   pub right : (q : ℕ) → q < n → Readable r vb lb (from + q) j
   pub left-same : (q : ℕ) → q < n → turnOf l i (from + q) ≡ turnOf l i from

@@ -19,6 +19,7 @@ ghost use Rattle.product.specs.Runs.{more, Spans, Alike, plain};
 use crate::plan::Plan;
 use crate::plan::Reading;
 use crate::plan::admitted;
+use crate::plan::straight;
 use crate::plan::turn_at;
 use crate::plan::turned;
 use crate::routines::gemm_plan;
@@ -124,8 +125,8 @@ fn add_alike(
     )
 }
 
-// Element (i, j) of the product of two operands, of which n elements each go into it.
-fn dot(
+// Element (i, j) of the product of two operands, of which n elements each go into it, run after run.
+fn dot_in_runs(
     l: Reading,
     a: &[f64],
     va: View,
@@ -147,6 +148,28 @@ fn dot(
         p += terms;
     }
     sum
+}
+
+// The same, at once where both operands are read alike in all their elements.
+fn dot(
+    l: Reading,
+    a: &[f64],
+    va: View,
+    r: Reading,
+    b: &[f64],
+    vb: View,
+    n: usize,
+    i: usize,
+    j: usize,
+) -> Complex
+    requires { ⌜ Factors l va (complex .count (now a)) r vb (complex .count (now b)) n i j ⌝ }
+    ensures { λ t. ⌜ t ≡ dotOf complex n (reading complex l (elem complex (now (a .entry)) va)) (reading complex r (elem complex (now (b .entry)) vb)) i j ⌝ }
+{
+    if straight(l, r) {
+        add_alike(l, a, va, r, b, vb, i, j, 0, n, Complex::ZERO)
+    } else {
+        dot_in_runs(l, a, va, r, b, vb, n, i, j)
+    }
 }
 
 // Element (i, j) of the target.

@@ -1,8 +1,9 @@
 // The plan of a product: the same for every number kind.
 
+ghost use mathlib.Core.Bool.{_&&_};
 ghost use mathlib.Core.Path.{_≡_};
 ghost use Rattle.view.specs.Triangle.{inTriangle};
-ghost use Rattle.product.specs.Plan.{admits, mirrored, opTurn, turnOf, turnedView};
+ghost use Rattle.product.specs.Plan.{admits, mirrored, opTurn, turnOf, turnedView, isOp};
 use view::Trans;
 use view::UpLo;
 use view::View;
@@ -99,4 +100,22 @@ pub fn turned(t: bool, v: View) -> View
     ensures { λ r. ⌜ r ≡ turnedView t v ⌝ }
 {
     if t { transposed(v) } else { v }
+}
+
+// Whether an operand is read alike in all its elements.
+fn is_op(m: Reading) -> bool
+    ensures { λ r. ⌜ r ≡ isOp m ⌝ }
+{
+    match m {
+        Reading::Op(_) => true,
+        Reading::Symmetric(_) => false,
+        Reading::Hermitian(_) => false,
+    }
+}
+
+// Whether both are.
+pub fn straight(l: Reading, r: Reading) -> bool
+    ensures { λ s. ⌜ s ≡ isOp l && isOp r ⌝ }
+{
+    if is_op(l) { is_op(r) } else { false }
 }

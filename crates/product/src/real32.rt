@@ -19,6 +19,7 @@ ghost use Rattle.product.specs.Runs.{more, Spans, Alike};
 use crate::plan::Plan;
 use crate::plan::Reading;
 use crate::plan::admitted;
+use crate::plan::straight;
 use crate::plan::turn_at;
 use crate::plan::turned;
 use crate::routines::gemm_plan;
@@ -100,8 +101,8 @@ fn add_alike(
     add_run(a, left, b, right, i, j, from, n, sum)
 }
 
-// Element (i, j) of the product of two operands, of which n elements each go into it.
-fn dot(
+// Element (i, j) of the product of two operands, of which n elements each go into it, run after run.
+fn dot_in_runs(
     l: Reading,
     a: &[f32],
     va: View,
@@ -123,6 +124,28 @@ fn dot(
         p += terms;
     }
     sum
+}
+
+// The same, at once where both operands are read alike in all their elements.
+fn dot(
+    l: Reading,
+    a: &[f32],
+    va: View,
+    r: Reading,
+    b: &[f32],
+    vb: View,
+    n: usize,
+    i: usize,
+    j: usize,
+) -> Real32
+    requires { ⌜ Factors l va (real32 .count (now a)) r vb (real32 .count (now b)) n i j ⌝ }
+    ensures { λ t. ⌜ t .0 ≡ dotOf real32 n (reading real32 l (elem real32 (now (a .entry)) va)) (reading real32 r (elem real32 (now (b .entry)) vb)) i j ⌝ }
+{
+    if straight(l, r) {
+        add_alike(l, a, va, r, b, vb, i, j, 0, n, Real32::ZERO)
+    } else {
+        dot_in_runs(l, a, va, r, b, vb, n, i, j)
+    }
 }
 
 // Element (i, j) of the target.

@@ -4,7 +4,7 @@ use native.Mathlib.Omega.{arith}
 use denote.Ref.{now}
 use Rattle.number.specs.Kind.{complex}
 use Rattle.product.specs.Runs.{more, plain}
-use Rattle.product.proofs.RunLaws.{more-start, more-end, more-next, left-shows, right-shows}
+use Rattle.product.proofs.RunLaws.{more-start, more-end, more-next}
 use Rattle.product.proofs.complex.add_run.Statement.{statement}
 use Rattle.product.proofs.complex.add_run.Tie as tie
 
@@ -18,13 +18,13 @@ loop-holds : tie.Need-loop-holds Inv-loop μ-loop
 loop-holds c = (omega arith, more-start complex _ _ _)
 
 add-p : tie.Need-add-p Inv-loop μ-loop
-add-p c = let h = c .before .before .before .before .pre in omega (arith, h .left, h .a .cols-le)
+add-p c = let h = c .before .before .before .before .pre .left (c .before .loop .k) (omega arith) in omega (arith, h .col, h .fits .cols-le)
 
 at-requires : tie.Need-at-requires Inv-loop μ-loop
-at-requires c κs = left-shows _ _ _ _ _ _ _ _ (c .before .before .before .before .pre) _ (omega arith)
+at-requires c κs = c .before .before .before .before .pre .left _ (omega arith)
 
 at-requires-2 : tie.Need-at-requires-2 Inv-loop μ-loop
-at-requires-2 c κs = right-shows _ _ _ _ _ _ _ _ (c .before .before .before .before .before .pre) _ (omega arith)
+at-requires-2 c κs = c .before .before .before .before .before .pre .right _ (omega arith)
 
 mul-requires : tie.Need-mul-requires Inv-loop μ-loop
 mul-requires c κs = tt

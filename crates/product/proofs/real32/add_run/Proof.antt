@@ -5,7 +5,7 @@ use denote.Ref.{now}
 use Rattle.number.specs.Kind.{real32}
 use Rattle.slab.specs.Elem.{elem}
 use Rattle.product.specs.Runs.{more}
-use Rattle.product.proofs.RunLaws.{more-start, more-end, more-next, left-shows, right-shows}
+use Rattle.product.proofs.RunLaws.{more-start, more-end, more-next}
 use Rattle.product.proofs.real32.add_run.Statement.{statement}
 use Rattle.product.proofs.real32.add_run.Tie as tie
 
@@ -19,13 +19,13 @@ loop-holds : tie.Need-loop-holds Inv-loop μ-loop
 loop-holds c = (omega arith, more-start real32 _ _ _)
 
 add-p : tie.Need-add-p Inv-loop μ-loop
-add-p c = let h = c .before .before .before .before .pre in omega (arith, h .left, h .a .cols-le)
+add-p c = let h = c .before .before .before .before .pre .left (c .before .loop .k) (omega arith) in omega (arith, h .col, h .fits .cols-le)
 
 elem32-requires : tie.Need-elem32-requires Inv-loop μ-loop
-elem32-requires c κs = left-shows _ _ _ _ _ _ _ _ (c .before .before .before .before .pre) _ (omega arith)
+elem32-requires c κs = c .before .before .before .before .pre .left _ (omega arith)
 
 elem32-requires-2 : tie.Need-elem32-requires-2 Inv-loop μ-loop
-elem32-requires-2 c κs = right-shows _ _ _ _ _ _ _ _ (c .before .before .before .before .before .pre) _ (omega arith)
+elem32-requires-2 c κs = c .before .before .before .before .before .pre .right _ (omega arith)
 
 mul-requires : tie.Need-mul-requires Inv-loop μ-loop
 mul-requires c κs = tt

@@ -1,54 +1,26 @@
-use Prim.Native.Nat.{_≤_, _-_}
-use mathlib.Core.Path.{_∙_, sym, _≡_}
-use native.Mathlib.Omega.{arith}
+use mathlib.Core.Path.{_∙_, sym}
 use lib.Ieee.{binary64}
 use Rattle.number.proofs.Literals.{zero-literal}
 use Rattle.number.specs.Kind.{real64}
-use Rattle.slab.specs.Elem.{elem}
-use Rattle.blas.proofs.SumLaws.{sum-start, sum-end}
-use Rattle.blas.specs.Matrix.{sum as total}
-use Rattle.product.specs.Plan.{reading}
-use Rattle.product.proofs.RunLaws.{run-alike, sum-more}
+use Rattle.blas.proofs.SumLaws.{sum-start}
+use Rattle.product.proofs.RunLaws.{straight-alike, sum-whole}
 use Rattle.product.proofs.real64.dot.Statement.{statement}
 use Rattle.product.proofs.real64.dot.Tie as tie
 
-abbrev Inv-loop : tie.InvT-loop
-Inv-loop l a va r b vb n i j sum₀ p₀ sum p = (p ≤ n) × (sum .0 ≡ total real64 p (λ q. real64 .mul (reading real64 l (elem real64 a va) i q) (reading real64 r (elem real64 b vb) q j)))
+straight-requires : tie.Need-straight-requires
+straight-requires c κs = tt
 
-abbrev μ-loop : tie.MeasureT-loop
-μ-loop l a va r b vb n i j sum₀ p₀ sum p = n - p
+add-alike-requires : tie.Need-add-alike-requires
+add-alike-requires c κs = straight-alike _ _ _ _ _ _ _ _ _ (c .before .before .before .before .pre) _ (c .before .straight .ensures) (c .if1 .taken)
 
-loop-holds : tie.Need-loop-holds Inv-loop μ-loop
-loop-holds c = (omega arith, zero-literal binary64 ∙ sym (sum-start real64 _))
+dot-in-runs-requires : tie.Need-dot-in-runs-requires
+dot-in-runs-requires c κs = c .before .before .before .before .pre
 
-alike-requires : tie.Need-alike-requires Inv-loop μ-loop
-alike-requires c κs = omega arith
+returns : tie.Need-returns
+returns c = sum-whole real64 _ _ _ _ (zero-literal binary64 ∙ sym (sum-start real64 _)) (c .add-alike .ensures)
 
-add-alike-requires : tie.Need-add-alike-requires Inv-loop μ-loop
-add-alike-requires c κs = run-alike _ _ _ _ _ _ _ _ _ _ _ (c .before .before .before .before .before .pre) (c .alike .ensures .0) (c .alike .ensures .1)
-
-add-p : tie.Need-add-p Inv-loop μ-loop
-add-p c = omega (arith, c .before .alike .ensures .0 .room)
-
-loop-less : tie.Need-loop-less Inv-loop μ-loop
-loop-less c = let h = c .before .alike .ensures .0 in omega (arith, h .some, h .room)
-
-loop-again : tie.Need-loop-again Inv-loop μ-loop
-loop-again c = (omega (arith, c .before .alike .ensures .0 .room), sum-more real64 _ _ _ _ _ (c .before .before .before .loop .inv .1) (c .add-alike .ensures))
-
-returns : tie.Need-returns Inv-loop μ-loop
-returns c = sum-end real64 _ _ _ _ (c .before .loop .inv .0) (omega arith) (c .before .loop .inv .1)
+returns-2 : tie.Need-returns-2
+returns-2 c = c .dot-in-runs .ensures
 
 pub dot-spec : {M : Type 1} → statement M
-dot-spec =
-    tie.close
-    (tie.spec
-    Inv-loop
-    μ-loop
-    loop-holds
-    alike-requires
-    add-alike-requires
-    add-p
-    loop-less
-    loop-again
-    returns)
+dot-spec = tie.close (tie.spec straight-requires add-alike-requires dot-in-runs-requires returns returns-2)
