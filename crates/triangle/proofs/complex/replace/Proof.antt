@@ -1,4 +1,4 @@
-use Rattle.triangle.proofs.Places.{unknown-is, unknown-shown, unknown-inside}
+use Rattle.order.proofs.Places.{unknown-is, unknown-shown, unknown-inside}
 use native.Mathlib.Omega.{arith}
 use borrow.Author.Needs.{needs}
 use Rattle.triangle.proofs.complex.replace.Statement.{statement}

@@ -8,8 +8,8 @@ use Rattle.number.specs.Kind.{real32}
 use Rattle.slab.specs.Elem.{elem}
 use Rattle.blas.specs.Matrix.{sumOver}
 use Rattle.blas.specs.Substitution.{unknown}
-use Rattle.triangle.specs.Multiply.{goesInto, weighs}
-use Rattle.triangle.proofs.Places.{term-in}
+use Rattle.order.specs.Multiply.{goesInto, weighs}
+use Rattle.order.proofs.Places.{term-in}
 use Rattle.triangle.proofs.real32.line_dot.Statement.{statement}
 use Rattle.triangle.proofs.real32.line_dot.Tie as tie
 

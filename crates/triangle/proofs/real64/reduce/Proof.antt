@@ -6,7 +6,7 @@ use borrow.Author.Needs.{needs}
 use Rattle.number.specs.Kind.{real64}
 use Rattle.slab.specs.Elem.{elem}
 use Rattle.blas.specs.Substitution.{less, brings as bringsOf, unknown as unknownOf}
-use Rattle.triangle.proofs.Places.{in-a, in-b, order-le}
+use Rattle.order.proofs.Places.{in-a, in-b, order-le}
 use Rattle.triangle.proofs.real64.reduce.Statement.{statement}
 use Rattle.triangle.proofs.real64.reduce.Tie as tie
 

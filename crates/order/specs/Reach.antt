@@ -1,0 +1,41 @@
+-- Which element of a line comes after k others, and how far a solve goes.
+use Prim.Native.Nat.{ℕ, _*_}
+use mathlib.Core.Bool.{Bool, not, cond, _&&_}
+use lib.Dec.{ltb}
+use Rattle.number.specs.Kind.{Kind}
+use Rattle.view.specs.declared.View.{View}
+use Rattle.view.specs.declared.Answer.{Answer}
+use Rattle.view.specs.declared.Answer.the-variants.{Done, Singular}
+use Rattle.view.specs.declared.Trans.{Trans}
+use Rattle.view.specs.declared.UpLo.{UpLo}
+use Rattle.view.specs.declared.Diag.{Diag}
+use Rattle.view.specs.declared.Side.{Side}
+use Rattle.view.specs.Checks.{orderOf}
+use Rattle.blas.specs.Matrix.{Matrix}
+use Rattle.blas.specs.Substitution.{lastFirst, inOrder, leastSolved, elementsBefore, firstAt, zeroPivot}
+
+-- the unknown that is solved after k others, and the least of these
+unfoldable pub solvedAfter : Side → UpLo → Trans → View → ℕ → ℕ
+solvedAfter side uplo t v k = inOrder (lastFirst side uplo t) (orderOf side v) k
+
+unfoldable pub leastAfter : Side → UpLo → Trans → View → ℕ → ℕ
+leastAfter side uplo t v k = leastSolved (lastFirst side uplo t) (orderOf side v) k
+
+-- the element that is multiplied after k others: against solving order
+unfoldable pub multipliedAfter : Side → UpLo → Trans → View → ℕ → ℕ
+multipliedAfter side uplo t v k = inOrder (not (lastFirst side uplo t)) (orderOf side v) k
+
+-- whether the pivot of the unknown that is solved after k others is zero, and how many unknowns come before the first such
+unfoldable pub zeroAfter : (K : Kind) → Side → UpLo → Trans → Diag → Matrix K → View → ℕ → Bool
+zeroAfter K side uplo t diag a v k = zeroPivot K diag a (solvedAfter side uplo t v k)
+
+abbrev pub firstZero : (K : Kind) → Side → UpLo → Trans → Diag → Matrix K → View → ℕ
+firstZero K side uplo t diag a v = firstAt (orderOf side v) (zeroAfter K side uplo t diag a v)
+
+-- how many elements are solved where k unknowns come before the first zero pivot: all where every unknown does
+unfoldable pub reached : Side → View → ℕ → ℕ
+reached side v k = cond (ltb 0 (v .rows * v .cols) && ltb k (orderOf side v)) (elementsBefore side v k) (v .rows * v .cols)
+
+-- the answer of a solve that solves n elements
+unfoldable pub verdict : View → ℕ → Answer
+verdict v n = cond (ltb n (v .rows * v .cols)) Singular Done
