@@ -180,3 +180,13 @@ row-in vb lb lb' i m a kept e g = (subst (λ (x : ℕ). Accepted vb x) (sym kept
 -- one of the n elements of a line
 pub term-in : (side : Side) (va : View) (la : ℕ) (vb : View) (lb q l n p : ℕ) → SidedRange side va la vb lb q l 0 n → p < n → SidedRange side va la vb lb q l p 1
 term-in side va la vb lb q l n p r h = record { at = r .at; range = omega (arith, r .range) }
+
+module _ (side : Side) (va : View) (la : ℕ) (vb : View) (lb q l p : ℕ) (r : SidedRange side va la vb lb q l p 1) where
+  pub term-unknown : InB side vb lb p l
+  term-unknown = in-b side va la vb lb (r .at .sided) p l (omega (arith, r .range)) (r .at .line)
+
+  pub term-coefficient : InSquare va la q p
+  term-coefficient = in-a side va la vb lb (r .at .sided) q p (r .at .unknown) (omega (arith, r .range))
+
+pub mirrored : (v : View) (len i j : ℕ) → InSquare v len i j → InSquare v len j i
+mirrored v len i j r = record { fits = r .fits; square = r .square; row = r .col; col = r .row }

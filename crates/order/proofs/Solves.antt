@@ -23,7 +23,7 @@ use Rattle.blas.specs.Matrix.{Matrix}
 use Rattle.blas.specs.Outcome.{Outcome, Gives}
 use Rattle.blas.specs.Substitution.{unknownAt, unknown, brings, lastFirst, inOrder, leastSolved, elementsBefore, firstAt, less, byPivot, zeroPivot, solveOne, solved, singular, substituted}
 use Rattle.blas.proofs.SubstitutionLaws.{in-order-lt, in-order-twice, least-solved-le, first-is, first-none, first-lt, first-true, first-element-in}
-use Rattle.order.specs.Reach.{solvedAfter, leastAfter, multipliedAfter, zeroAfter, firstZero, reached, verdict}
+use Rattle.order.specs.Reach.{solvedAfter, leastAfter, multipliedAfter, reduced, zeroAfter, firstZero, reached, verdict}
 
 -- ---- the first number at which a test passes, as a loop that counts by one meets it
 
@@ -63,9 +63,9 @@ module _ (K : Kind) (side : Side) (uplo : UpLo) (t : Trans) (diag : Diag) (a : M
 
   pub solve-one-is : (start : K .Elem → K .Elem) (k l q from : ℕ) (w x y z : K .Elem) (s s' : List (K .Cell)) → q ≡ solvedAfter side uplo t v k
       → from ≡ leastAfter side uplo t v k → w ≡ unknown K side s v q l → x ≡ start w
-      → y ≡ less K x (λ p. brings K side t a q p (unknown K side s v p l)) from k → z ≡ byPivot K diag t a q y
+      → y ≡ reduced K side t a v s q l from k x → z ≡ byPivot K diag t a q y
       → s' ≡ K .put s (unknownAt side v q l) z → s' ≡ solveOne K side uplo t diag start a v k l s
-  unfolding solveOne solvedAfter leastAfter
+  unfolding solveOne solvedAfter leastAfter reduced
   solve-one-is start k l q from w x y z s s' here there taken started rest divided e =
       e
       ∙ ap (λ (n : K .Elem). K .put s (unknownAt side v q l) n)

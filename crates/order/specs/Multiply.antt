@@ -1,6 +1,6 @@
 -- The triangular product in place, element after element: each is worked out from the slab as it is then.
 use Prim.Native.Nat.{ℕ, zero, suc}
-use mathlib.Core.Bool.{Bool}
+use mathlib.Core.Bool.{Bool, cond}
 use mathlib.Core.List.{List}
 use Rattle.number.specs.Kind.{Kind}
 use Rattle.view.specs.declared.View.{View}
@@ -24,6 +24,10 @@ goesInto Right uplo t q p = inOp uplo t p q
 abbrev pub weighs : (K : Kind) → Side → Diag → Trans → Matrix K → ℕ → ℕ → K .Elem → K .Elem
 weighs K Left diag t a q p x = K .mul (triangular K diag t a q p) x
 weighs K Right diag t a q p x = K .mul x (triangular K diag t a p q)
+
+-- a sum with what element p of line l brings into element q, where it goes into it
+unfoldable pub addTerm : (K : Kind) → Side → UpLo → Trans → Diag → Matrix K → View → List (K .Cell) → ℕ → ℕ → ℕ → K .Elem → K .Elem
+addTerm K side uplo t diag a v s q l p sum = cond (goesInto side uplo t q p) (K .add sum (weighs K side diag t a q p (unknown K side s v p l))) sum
 
 -- element q of line l of the product, with n elements to a line
 abbrev pub lineDot : (K : Kind) → Side → UpLo → Trans → Diag → Matrix K → View → ℕ → List (K .Cell) → ℕ → ℕ → K .Elem

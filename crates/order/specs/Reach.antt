@@ -1,6 +1,7 @@
--- Which element of a line comes after k others, and how far a solve goes.
+-- Which element of a line comes after k others, what a solve subtracts, and how far it goes.
 use Prim.Native.Nat.{ℕ, _*_}
 use mathlib.Core.Bool.{Bool, not, cond, _&&_}
+use mathlib.Core.List.{List}
 use lib.Dec.{ltb}
 use Rattle.number.specs.Kind.{Kind}
 use Rattle.view.specs.declared.View.{View}
@@ -12,7 +13,7 @@ use Rattle.view.specs.declared.Diag.{Diag}
 use Rattle.view.specs.declared.Side.{Side}
 use Rattle.view.specs.Checks.{orderOf}
 use Rattle.blas.specs.Matrix.{Matrix}
-use Rattle.blas.specs.Substitution.{lastFirst, inOrder, leastSolved, elementsBefore, firstAt, zeroPivot}
+use Rattle.blas.specs.Substitution.{unknown, brings, less, lastFirst, inOrder, leastSolved, elementsBefore, firstAt, zeroPivot}
 
 -- the unknown that is solved after k others, and the least of these
 unfoldable pub solvedAfter : Side → UpLo → Trans → View → ℕ → ℕ
@@ -24,6 +25,10 @@ leastAfter side uplo t v k = leastSolved (lastFirst side uplo t) (orderOf side v
 -- the element that is multiplied after k others: against solving order
 unfoldable pub multipliedAfter : Side → UpLo → Trans → View → ℕ → ℕ
 multipliedAfter side uplo t v k = inOrder (not (lastFirst side uplo t)) (orderOf side v) k
+
+-- x less what n unknowns of line l, from `from` on, bring into the equation of unknown q
+unfoldable pub reduced : (K : Kind) → Side → Trans → Matrix K → View → List (K .Cell) → ℕ → ℕ → ℕ → ℕ → K .Elem → K .Elem
+reduced K side t a v s q l from n x = less K x (λ p. brings K side t a q p (unknown K side s v p l)) from n
 
 -- whether the pivot of the unknown that is solved after k others is zero, and how many unknowns come before the first such
 unfoldable pub zeroAfter : (K : Kind) → Side → UpLo → Trans → Diag → Matrix K → View → ℕ → Bool

@@ -1,6 +1,5 @@
 // The triangular products and solves of complex numbers.
 
-ghost use mathlib.Core.Bool.{cond};
 ghost use mathlib.Core.Path.{_≡_};
 ghost use Prim.Native.Nat.{_*_, _<_};
 ghost use Rattle.number.specs.Kind.{complex};
@@ -18,7 +17,7 @@ ghost use Rattle.blas.specs.Trmv;
 ghost use Rattle.blas.specs.Triangular.{triangular};
 ghost use Rattle.order.specs.Multiply as multiply;
 ghost use Rattle.order.specs.Ready.{timesIf, InSquare, InB, Sided, SidedAt, SidedFirst, SidedRange, Pivots};
-ghost use Rattle.order.specs.Reach.{firstZero};
+ghost use Rattle.order.specs.Reach.{reduced, firstZero};
 use number::Complex;
 use order::conjugated;
 use order::elements;
@@ -106,7 +105,7 @@ fn reduce(
     x: Complex,
 ) -> Complex
     requires { ⌜ SidedRange side va (complex .count (now a)) vb (complex .count (now b)) q l from n ⌝ }
-    ensures { λ r. ⌜ r ≡ substitution.less complex x (λ p. substitution.brings complex side t (elem complex (now (a .entry)) va) q p (substitution.unknown complex side (now (b .entry)) vb p l)) from n ⌝ }
+    ensures { λ r. ⌜ r ≡ reduced complex side t (elem complex (now (a .entry)) va) vb (now (b .entry)) q l from n x ⌝ }
 {
     let mut rest = x;
     let mut i = 0;
@@ -342,7 +341,7 @@ fn add_term(
     sum: Complex,
 ) -> Complex
     requires { ⌜ SidedRange side va (complex .count (now a)) vb (complex .count (now b)) q l p 1 ⌝ }
-    ensures { λ r. ⌜ r ≡ cond (multiply.goesInto side uplo t q p) (complex .add sum (multiply.weighs complex side diag t (elem complex (now (a .entry)) va) q p (substitution.unknown complex side (now (b .entry)) vb p l))) sum ⌝ }
+    ensures { λ r. ⌜ r ≡ multiply.addTerm complex side uplo t diag (elem complex (now (a .entry)) va) vb (now (b .entry)) q l p sum ⌝ }
 {
     if goes_into(side, uplo, t, q, p) {
         sum.add(weighs(side, diag, t, a, va, q, p, unknown(side, b, vb, p, l)))

@@ -1,6 +1,5 @@
 // The triangular products and solves of f32.
 
-ghost use mathlib.Core.Bool.{cond};
 ghost use mathlib.Core.Path.{_≡_};
 ghost use Prim.Native.Nat.{_*_, _<_};
 ghost use Rattle.number.specs.Kind.{real32};
@@ -18,7 +17,7 @@ ghost use Rattle.blas.specs.Trmv;
 ghost use Rattle.blas.specs.Triangular.{triangular};
 ghost use Rattle.order.specs.Multiply as multiply;
 ghost use Rattle.order.specs.Ready.{timesIf, InSquare, InB, Sided, SidedAt, SidedFirst, SidedRange, Pivots};
-ghost use Rattle.order.specs.Reach.{firstZero};
+ghost use Rattle.order.specs.Reach.{reduced, firstZero};
 use number::Real32;
 use order::elements;
 use order::goes_into;
@@ -104,7 +103,7 @@ fn reduce(
     x: Real32,
 ) -> Real32
     requires { ⌜ SidedRange side va (real32 .count (now a)) vb (real32 .count (now b)) q l from n ⌝ }
-    ensures { λ r. ⌜ r .0 ≡ substitution.less real32 (x .0) (λ p. substitution.brings real32 side t (elem real32 (now (a .entry)) va) q p (substitution.unknown real32 side (now (b .entry)) vb p l)) from n ⌝ }
+    ensures { λ r. ⌜ r .0 ≡ reduced real32 side t (elem real32 (now (a .entry)) va) vb (now (b .entry)) q l from n (x .0) ⌝ }
 {
     let mut rest = x;
     let mut i = 0;
@@ -340,7 +339,7 @@ fn add_term(
     sum: Real32,
 ) -> Real32
     requires { ⌜ SidedRange side va (real32 .count (now a)) vb (real32 .count (now b)) q l p 1 ⌝ }
-    ensures { λ r. ⌜ r .0 ≡ cond (multiply.goesInto side uplo t q p) (real32 .add (sum .0) (multiply.weighs real32 side diag t (elem real32 (now (a .entry)) va) q p (substitution.unknown real32 side (now (b .entry)) vb p l))) (sum .0) ⌝ }
+    ensures { λ r. ⌜ r .0 ≡ multiply.addTerm real32 side uplo t diag (elem real32 (now (a .entry)) va) vb (now (b .entry)) q l p (sum .0) ⌝ }
 {
     if goes_into(side, uplo, t, q, p) {
         sum.add(weighs(side, diag, t, a, va, q, p, unknown(side, b, vb, p, l)))
