@@ -30,9 +30,9 @@ pub product-le : (m n r c : ℕ) → m ≡ r → n ≡ c → r ≤ limit → c �
 product-le m n r c e g p q = subst (λ (x : ℕ). x ≤ limit * limit) (sym (λ i. e i * g i)) (mul-le-mul p q)
 
 -- an unknown is one of so many
-pub within : (side : Side) (v : View) (k : ℕ) → (v .rows ≤ limit) × (v .cols ≤ limit) → (m : ℕ) → m ≡ orderOf side v → k < m → k ≤ limit
-within Left v k h m e g = omega (arith, h .0, e, g)
-within Right v k h m e g = omega (arith, h .1, e, g)
+pub within : (side : Side) (v : View) (k : ℕ) → (v .rows ≤ limit) × (v .cols ≤ limit) → k < orderOf side v → k ≤ limit
+within Left v k h g = omega (arith, h .0, g)
+within Right v k h g = omega (arith, h .1, g)
 
 -- ---- an element of op(A)
 

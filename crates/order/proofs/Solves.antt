@@ -23,7 +23,9 @@ use Rattle.blas.specs.Matrix.{Matrix}
 use Rattle.blas.specs.Outcome.{Outcome, Gives}
 use Rattle.blas.specs.Substitution.{unknownAt, unknown, brings, lastFirst, inOrder, leastSolved, elementsBefore, firstAt, less, byPivot, zeroPivot, solveOne, solved, singular, substituted}
 use Rattle.blas.proofs.SubstitutionLaws.{in-order-lt, in-order-twice, least-solved-le, first-is, first-none, first-lt, first-true, first-element-in}
-use Rattle.order.specs.Reach.{solvedAfter, leastAfter, multipliedAfter, reduced, zeroAfter, firstZero, reached, verdict}
+use Rattle.view.specs.Refusals.{limit}
+use Rattle.order.proofs.Places.{within}
+use Rattle.order.specs.Reach.{solvedAfter, leastAfter, multipliedAfter, reduced, zeroAfter, firstZero, stops, reached, verdict}
 
 -- ---- the first number at which a test passes, as a loop that counts by one meets it
 
@@ -85,7 +87,7 @@ module _ (K : Kind) (x y : Outcome K) (r : Answer) (s : List (K .Cell)) where
 
 module _ (K : Kind) (side : Side) (uplo : UpLo) (t : Trans) (diag : Diag) (start : K .Elem → K .Elem) (a : Matrix K) (v : View) (s₀ : List (K .Cell))
     (k n : ℕ) (r : Answer) (s : List (K .Cell)) (first : k ≡ firstZero K side uplo t diag a v) (reaches : n ≡ reached side v k)
-    (so-far : s ≡ solved K side uplo t diag start a v n s₀) (answered : r ≡ verdict v n) where
+    (so-far : s ≡ solved K side uplo t diag start a v n s₀) (answered : r ≡ verdict side v k) where
   abbrev m : ℕ
   m = orderOf side v
 
@@ -108,92 +110,101 @@ module _ (K : Kind) (side : Side) (uplo : UpLo) (t : Trans) (diag : Diag) (start
         (first-lt m (zeroAfter K side uplo t diag a v) (inOrder last m (w .0)) (in-order-lt last m (w .0) (w .1))
         (ap (zeroPivot K diag a) (in-order-twice last m (w .0) (w .1)) ∙ w .2))
 
-    stopped : n ≡ elementsBefore side v k
-    unfolding reached
-    stopped = reaches ∙ ap (λ (b : Bool). cond b (elementsBefore side v k) total) (and-both (ltb 0 total) (ltb k m) some (lt-ltb k m k-lt))
+    stopped : stops side v k ≡ true
+    unfolding stops
+    stopped = and-both (ltb 0 total) (ltb k m) some (lt-ltb k m k-lt)
 
-    stops : Gives K (substituted K side uplo t diag start a v s₀) r s
-    unfolding substituted solvedAfter zeroAfter verdict
-    stops =
-        let below : n < total = subst (λ (x : ℕ). x < total) (sym stopped) (first-element-in side v k (ltb-true 0 total some) k-lt) in
+    gives-stop : Gives K (substituted K side uplo t diag start a v s₀) r s
+    unfolding substituted solvedAfter zeroAfter reached verdict
+    gives-stop =
         gives-first K _ _ r s (singular K side uplo t diag start a v) e
         (record {
-          answer = ap answerNumber (answered ∙ ap (λ (b : Bool). cond b Singular Done) (lt-ltb n total below));
-          slab = so-far ∙ ap (λ (x : ℕ). solved K side uplo t diag start a v x s₀) (stopped ∙ ap (elementsBefore side v) first);
+          answer = ap answerNumber (answered ∙ ap (λ (b : Bool). cond b Singular Done) stopped);
+          slab =
+              so-far
+              ∙ ap (λ (x : ℕ). solved K side uplo t diag start a v x s₀)
+              (reaches ∙ ap (λ (b : Bool). cond b (elementsBefore side v k) total) stopped ∙ ap (elementsBefore side v) first);
         })
 
   -- no pivot is zero, or the target is empty
   module _ (e : singular K side uplo t diag start a v ≡ false) where
-    not-stopped : (ltb 0 total && ltb k m) ≡ true → ⊥
-    unfolding solvedAfter zeroAfter
-    not-stopped h =
+    not-stopped : stops side v k ≡ false
+    unfolding solvedAfter zeroAfter stops
+    not-stopped =
+        is-false (ltb 0 total && ltb k m)
+        (λ h.
         let below : k < m = ltb-true k m (and-right (ltb 0 total) (ltb k m) h) in
         let zero-there = ap (zeroAfter K side uplo t diag a v) first ∙ first-true m (zeroAfter K side uplo t diag a v) (subst (λ (x : ℕ). x < m) first below) in
         clash
         (and-both (ltb 0 total) (any m (λ q. zeroPivot K diag a q)) (and-left (ltb 0 total) (ltb k m) h)
         (found m (λ q. zeroPivot K diag a q) (inOrder last m k) (in-order-lt last m k below) zero-there))
-        e
+        e)
 
-    all : n ≡ total
-    unfolding reached
-    all = reaches ∙ ap (λ (b : Bool). cond b (elementsBefore side v k) total) (is-false (ltb 0 total && ltb k m) not-stopped)
-
-    ends : Gives K (substituted K side uplo t diag start a v s₀) r s
-    unfolding substituted verdict
-    ends =
-        let whole : total ≤ n = omega (arith, all) in
+    gives-all : Gives K (substituted K side uplo t diag start a v s₀) r s
+    unfolding substituted reached verdict
+    gives-all =
         gives-second K _ _ r s (singular K side uplo t diag start a v) e
         (record {
-          answer = ap answerNumber (answered ∙ ap (λ (b : Bool). cond b Singular Done) (le-ltb n total whole));
-          slab = so-far ∙ ap (λ (x : ℕ). solved K side uplo t diag start a v x s₀) all;
+          answer = ap answerNumber (answered ∙ ap (λ (b : Bool). cond b Singular Done) not-stopped);
+          slab =
+              so-far
+              ∙ ap (λ (x : ℕ). solved K side uplo t diag start a v x s₀)
+              (reaches ∙ ap (λ (b : Bool). cond b (elementsBefore side v k) total) not-stopped);
         })
 
   pub solve-gives : Gives K (substituted K side uplo t diag start a v s₀) r s
   solve-gives = go (singular K side uplo t diag start a v) refl
     where
       go : (b : Bool) → singular K side uplo t diag start a v ≡ b → Gives K (substituted K side uplo t diag start a v s₀) r s
-      go true e = stops e
-      go false e = ends e
+      go true e = gives-stop e
+      go false e = gives-all e
 
--- it is no more than there is
-pub reached-le : (side : Side) (v : View) (k n : ℕ) → n ≡ reached side v k → n ≤ v .rows * v .cols
-unfolding reached
-reached-le side v k n e = subst (λ (x : ℕ). x ≤ v .rows * v .cols) (sym e) (go (ltb 0 (v .rows * v .cols) && ltb k (orderOf side v)) refl)
-  where
-    below : {x y : ℕ} → x < y → x ≤ y
-    below h = omega arith
-
-    go : (b : Bool) → (ltb 0 (v .rows * v .cols) && ltb k (orderOf side v)) ≡ b → cond b (elementsBefore side v k) (v .rows * v .cols) ≤ v .rows * v .cols
-    go true h =
-        let total = v .rows * v .cols in
-        let m = orderOf side v in
-        below (first-element-in side v k (ltb-true 0 total (and-left (ltb 0 total) (ltb k m) h)) (ltb-true k m (and-right (ltb 0 total) (ltb k m) h)))
-    go false h = omega arith
-
--- ---- the ways out of `reached`
+-- ---- how far
 
 module _ (side : Side) (v : View) (k : ℕ) where
-  pub reached-stop : (total m r : ℕ) → total ≡ v .rows * v .cols → 0 < total → m ≡ orderOf side v → k < m → r ≡ elementsBefore side v k → r ≡ reached side v k
-  unfolding reached
-  reached-stop total m r counted p ordered q e =
-      e
-      ∙ sym (ap (λ (b : Bool). cond b (elementsBefore side v k) (v .rows * v .cols))
-      (and-both (ltb 0 (v .rows * v .cols)) (ltb k (orderOf side v)) (lt-ltb 0 _ (subst (λ (x : ℕ). 0 < x) counted p)) (lt-ltb k _ (subst (λ (x : ℕ). k < x) ordered q))))
+  pub stops-before : stops side v k ≡ true → (0 < v .rows * v .cols) × (k < orderOf side v)
+  unfolding stops
+  stops-before e =
+      let total = v .rows * v .cols in
+      let m = orderOf side v in
+      (ltb-true 0 total (and-left (ltb 0 total) (ltb k m) e), ltb-true k m (and-right (ltb 0 total) (ltb k m) e))
 
-  pub reached-all : (total m : ℕ) → total ≡ v .rows * v .cols → m ≡ orderOf side v → m ≤ k → total ≡ reached side v k
-  unfolding reached
-  reached-all total m counted ordered q =
-      counted
-      ∙ sym (ap (λ (b : Bool). cond b (elementsBefore side v k) (v .rows * v .cols))
-      (is-false (ltb 0 (v .rows * v .cols) && ltb k (orderOf side v))
-      (λ e. clash (and-right (ltb 0 (v .rows * v .cols)) (ltb k (orderOf side v)) e) (le-ltb k _ (subst (λ (x : ℕ). x ≤ k) ordered q)))))
+  pub stops-within : (b : Bool) → (v .rows ≤ limit) × (v .cols ≤ limit) → b ≡ stops side v k → b ≡ true → k ≤ limit
+  stops-within b small told is = within side v k small (stops-before (sym told ∙ is) .1)
 
-  pub reached-none : (total : ℕ) → total ≡ v .rows * v .cols → total ≤ 0 → total ≡ reached side v k
+  -- no farther than there are elements
+  pub reached-le : (n : ℕ) → n ≡ reached side v k → n ≤ v .rows * v .cols
   unfolding reached
-  reached-none total counted q =
-      counted
-      ∙ sym (ap (λ (b : Bool). cond b (elementsBefore side v k) (v .rows * v .cols))
-      (and-no-left (ltb 0 (v .rows * v .cols)) (ltb k (orderOf side v)) (le-ltb 0 _ (subst (λ (x : ℕ). x ≤ 0) counted q))))
+  reached-le n e = subst (λ (x : ℕ). x ≤ v .rows * v .cols) (sym e) (go (stops side v k) refl)
+    where
+      below : {x y : ℕ} → x < y → x ≤ y
+      below h = omega arith
+
+      go : (b : Bool) → stops side v k ≡ b → cond b (elementsBefore side v k) (v .rows * v .cols) ≤ v .rows * v .cols
+      go true h = let w = stops-before h in below (first-element-in side v k (w .0) (w .1))
+      go false h = omega arith
+
+  -- where the target has elements, and where it has none
+  pub stops-some : (total m : ℕ) → total ≡ v .rows * v .cols → 0 < total → m ≡ orderOf side v → ltb k m ≡ stops side v k
+  unfolding stops
+  stops-some total m counted p ordered =
+      ap (ltb k) ordered
+      ∙ ap (λ (b : Bool). b && ltb k (orderOf side v)) (sym (lt-ltb 0 (v .rows * v .cols) (subst (λ (x : ℕ). 0 < x) counted p)))
+
+  pub stops-none : (total : ℕ) → total ≡ v .rows * v .cols → total ≤ 0 → false ≡ stops side v k
+  unfolding stops
+  stops-none total counted q =
+      sym (and-no-left (ltb 0 (v .rows * v .cols)) (ltb k (orderOf side v)) (le-ltb 0 (v .rows * v .cols) (subst (λ (x : ℕ). x ≤ 0) counted q)))
+
+  -- by what the test says
+  module _ (b c : Bool) (told : b ≡ stops side v k) (is : b ≡ c) where
+    pub reached-is : (r : ℕ) → r ≡ cond c (elementsBefore side v k) (v .rows * v .cols) → r ≡ reached side v k
+    unfolding reached
+    reached-is r e = e ∙ ap (λ (x : Bool). cond x (elementsBefore side v k) (v .rows * v .cols)) (sym is ∙ told)
+
+    pub verdict-is : (r : Answer) → r ≡ cond c Singular Done → r ≡ verdict side v k
+    unfolding verdict
+    verdict-is r e = e ∙ ap (λ (x : Bool). cond x Singular Done) (sym is ∙ told)
 
 -- ---- the ways out of the functions that count
 
@@ -215,7 +226,3 @@ module _ (side : Side) (uplo : UpLo) (t : Trans) (v : View) (k : ℕ) (below : k
   least-after-is lasts e =
       let there : r ≡ leastSolved (lastFirst side uplo t) (orderOf side v) k = e ∙ (λ i. leastSolved (lasts i) (counted i) k) in
       (there, subst (λ (x : ℕ). x + k ≤ orderOf side v) (sym there) (least-solved-le (lastFirst side uplo t) (orderOf side v) k below))
-
-pub verdict-is : (v : View) (n total : ℕ) (r : Answer) (b : Bool) → total ≡ v .rows * v .cols → ltb n total ≡ b → r ≡ cond b Singular Done → r ≡ verdict v n
-unfolding verdict
-verdict-is v n total r b counted e h = h ∙ ap (λ (x : Bool). cond x Singular Done) (sym e ∙ ap (ltb n) counted)

@@ -37,10 +37,13 @@ zeroAfter K side uplo t diag a v k = zeroPivot K diag a (solvedAfter side uplo t
 abbrev pub firstZero : (K : Kind) → Side → UpLo → Trans → Diag → Matrix K → View → ℕ
 firstZero K side uplo t diag a v = firstAt (orderOf side v) (zeroAfter K side uplo t diag a v)
 
--- how many elements are solved where k unknowns come before the first zero pivot: all where every unknown does
-unfoldable pub reached : Side → View → ℕ → ℕ
-reached side v k = cond (ltb 0 (v .rows * v .cols) && ltb k (orderOf side v)) (elementsBefore side v k) (v .rows * v .cols)
+-- whether a solve stops at a zero pivot, where k unknowns come before the first one: the target is not empty, and not all unknowns do
+unfoldable pub stops : Side → View → ℕ → Bool
+stops side v k = ltb 0 (v .rows * v .cols) && ltb k (orderOf side v)
 
--- the answer of a solve that solves n elements
-unfoldable pub verdict : View → ℕ → Answer
-verdict v n = cond (ltb n (v .rows * v .cols)) Singular Done
+-- how many elements it solves, and what it answers
+unfoldable pub reached : Side → View → ℕ → ℕ
+reached side v k = cond (stops side v k) (elementsBefore side v k) (v .rows * v .cols)
+
+unfoldable pub verdict : Side → View → ℕ → Answer
+verdict side v k = cond (stops side v k) Singular Done

@@ -186,26 +186,36 @@ fn elements_before(side: Side, b: View, k: usize) -> usize
     }
 }
 
-// How many elements are solved where k unknowns come before the first zero pivot.
+// Whether a solve stops at a zero pivot, where k unknowns come before the first one.
+fn stops(side: Side, b: View, k: usize) -> bool
+    requires { ⌜ (b .rows ≤ limit) × (b .cols ≤ limit) ⌝ }
+    ensures { λ r. ⌜ r ≡ reach.stops side b k ⌝ }
+{
+    if elements(b) > 0 {
+        k < order_of(side, b)
+    } else {
+        false
+    }
+}
+
+// How many elements are solved.
 pub fn reached(side: Side, b: View, k: usize) -> usize
     requires { ⌜ (b .rows ≤ limit) × (b .cols ≤ limit) ⌝ }
     ensures { λ r. ⌜ r ≡ reach.reached side b k ⌝ }
 {
-    let total = elements(b);
-    if total > 0 {
-        if k < order_of(side, b) {
-            return elements_before(side, b, k);
-        }
+    if stops(side, b, k) {
+        elements_before(side, b, k)
+    } else {
+        elements(b)
     }
-    total
 }
 
-// The answer of a solve that solves n elements.
-pub fn verdict(b: View, n: usize) -> Answer
+// What the solve answers.
+pub fn verdict(side: Side, b: View, k: usize) -> Answer
     requires { ⌜ (b .rows ≤ limit) × (b .cols ≤ limit) ⌝ }
-    ensures { λ r. ⌜ r ≡ reach.verdict b n ⌝ }
+    ensures { λ r. ⌜ r ≡ reach.verdict side b k ⌝ }
 {
-    if n < elements(b) {
+    if stops(side, b, k) {
         Answer::Singular
     } else {
         Answer::Done

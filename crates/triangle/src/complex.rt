@@ -204,12 +204,12 @@ fn solve_first(
     requires { ⌜ SidedFirst side va (complex .count (now a)) vb (complex .count (now b)) n ⌝ }
     ensures { λ _. ⌜ now (b .exit) ≡ substitution.solved complex side uplo t diag (timesIf complex times alpha) (elem complex (now (a .entry)) va) vb n (now (b .entry)) ⌝ }
 {
-    let mut i = 0;
-    while i < n {
-        let k = turn_of(side, vb, i);
-        let l = line_of(side, vb, i);
+    let mut done = 0;
+    while done < n {
+        let k = turn_of(side, vb, done);
+        let l = line_of(side, vb, done);
         solve_one(side, uplo, t, diag, times, alpha, a, va, b, vb, k, l);
-        i += 1;
+        done += 1;
     }
 }
 
@@ -229,9 +229,10 @@ fn solve(
     requires { ⌜ Sided side va (complex .count (now a)) vb (complex .count (now b)) ⌝ }
     ensures { λ r. ⌜ Gives complex (substitution.substituted complex side uplo t diag (timesIf complex times alpha) (elem complex (now (a .entry)) va) vb (now (b .entry))) r (now (b .exit)) ⌝ }
 {
-    let n = reached(side, vb, first_zero(side, uplo, t, diag, a, va, vb));
+    let k = first_zero(side, uplo, t, diag, a, va, vb);
+    let n = reached(side, vb, k);
     solve_first(side, uplo, t, diag, times, alpha, a, va, b, vb, n);
-    verdict(vb, n)
+    verdict(side, vb, k)
 }
 
 // Element (i, j) of B times alpha.

@@ -202,12 +202,12 @@ fn solve_first(
     requires { ⌜ SidedFirst side va (real32 .count (now a)) vb (real32 .count (now b)) n ⌝ }
     ensures { λ _. ⌜ now (b .exit) ≡ substitution.solved real32 side uplo t diag (timesIf real32 times (alpha .0)) (elem real32 (now (a .entry)) va) vb n (now (b .entry)) ⌝ }
 {
-    let mut i = 0;
-    while i < n {
-        let k = turn_of(side, vb, i);
-        let l = line_of(side, vb, i);
+    let mut done = 0;
+    while done < n {
+        let k = turn_of(side, vb, done);
+        let l = line_of(side, vb, done);
         solve_one(side, uplo, t, diag, times, alpha, a, va, b, vb, k, l);
-        i += 1;
+        done += 1;
     }
 }
 
@@ -227,9 +227,10 @@ fn solve(
     requires { ⌜ Sided side va (real32 .count (now a)) vb (real32 .count (now b)) ⌝ }
     ensures { λ r. ⌜ Gives real32 (substitution.substituted real32 side uplo t diag (timesIf real32 times (alpha .0)) (elem real32 (now (a .entry)) va) vb (now (b .entry))) r (now (b .exit)) ⌝ }
 {
-    let n = reached(side, vb, first_zero(side, uplo, t, diag, a, va, vb));
+    let k = first_zero(side, uplo, t, diag, a, va, vb);
+    let n = reached(side, vb, k);
     solve_first(side, uplo, t, diag, times, alpha, a, va, b, vb, n);
-    verdict(vb, n)
+    verdict(side, vb, k)
 }
 
 // Element (i, j) of B times alpha.

@@ -13,10 +13,10 @@ use Rattle.triangle.proofs.real32.solve_first.Statement.{statement}
 use Rattle.triangle.proofs.real32.solve_first.Tie as tie
 
 abbrev Inv-loop : tie.InvT-loop
-Inv-loop side uplo t diag times alpha a va b₀ vb n i₀ b i = (i ≤ n) × (length b ≡ length b₀) × (b ≡ solved real32 side uplo t diag (timesIf real32 times (alpha .0)) (elem real32 a va) vb i b₀)
+Inv-loop side uplo t diag times alpha a va b₀ vb n done₀ b done = (done ≤ n) × (length b ≡ length b₀) × (b ≡ solved real32 side uplo t diag (timesIf real32 times (alpha .0)) (elem real32 a va) vb done b₀)
 
 abbrev μ-loop : tie.MeasureT-loop
-μ-loop side uplo t diag times alpha a va b₀ vb n i₀ b i = n - i
+μ-loop side uplo t diag times alpha a va b₀ vb n done₀ b done = n - done
 
 loop-holds : tie.Need-loop-holds Inv-loop μ-loop
 loop-holds c = (omega arith, refl, sym (solved-start real32 _ _ _ _ _ _ _ _))
@@ -30,8 +30,8 @@ line-of-requires c κs = lt-of-lt-of-le (c .before .loop-test .taken) (c .before
 solve-one-requires : tie.Need-solve-one-requires Inv-loop μ-loop
 solve-one-requires c κs = turn-at _ _ _ _ _ (c .before .before .before .before .before .before .before .pre .sided) _ _ _ _ (lt-of-lt-of-le (c .before .before .before .loop-test .taken) (c .before .before .before .before .before .before .before .pre .within)) (c .before .before .turn-of .ensures) (c .before .line-of .ensures) (c .before .before .before .before .loop .inv .1)
 
-add-i : tie.Need-add-i Inv-loop μ-loop
-add-i c = omega arith
+add-done : tie.Need-add-done Inv-loop μ-loop
+add-done c = omega arith
 
 loop-less : tie.Need-loop-less Inv-loop μ-loop
 loop-less c = omega arith
@@ -55,7 +55,7 @@ solve-first-spec =
     turn-of-requires
     line-of-requires
     solve-one-requires
-    add-i
+    add-done
     loop-less
     loop-again
     same-length
