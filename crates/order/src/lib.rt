@@ -203,10 +203,11 @@ pub fn reached(side: Side, b: View, k: usize) -> usize
     requires { ⌜ (b .rows ≤ limit) × (b .cols ≤ limit) ⌝ }
     ensures { λ r. ⌜ r ≡ reach.reached side b k ⌝ }
 {
+    let total = elements(b);
     if stops(side, b, k) {
         elements_before(side, b, k)
     } else {
-        elements(b)
+        total
     }
 }
 

@@ -19,7 +19,7 @@ mul-result : tie.Need-mul-result
 mul-result c = omega (arith, product-le _ _ _ _ refl (c .rows .ensures) (c .before .before .before .pre .1) (c .before .before .before .pre .0))
 
 returns : tie.Need-returns
-returns c = rw (c .enum-told .given .1)
+returns c = rw (c .enum-told .given .1) refl
 
 returns-2 : tie.Need-returns-2
 returns-2 c = rw (c .before .enum-told2 .given .1) (ap (λ x. c .before .before .before .args .k * x) (c .rows .ensures))

@@ -7,7 +7,6 @@ use Rattle.order.specs.Ready.{timesIf}
 use Rattle.slab.specs.Elem.{elem}
 use lib.ListN.{length}
 use mathlib.Core.Path.{_≡_, refl, ap, sym, _∙_}
-use native.Mathlib.Nat.{lt-of-lt-of-le}
 use native.Mathlib.Omega.{arith}
 use Rattle.triangle.proofs.complex.solve_first.Statement.{statement}
 use Rattle.triangle.proofs.complex.solve_first.Tie as tie
@@ -22,13 +21,13 @@ loop-holds : tie.Need-loop-holds Inv-loop μ-loop
 loop-holds c = (omega arith, refl, sym (solved-start complex _ _ _ _ _ _ _ _))
 
 turn-of-requires : tie.Need-turn-of-requires Inv-loop μ-loop
-turn-of-requires c κs = lt-of-lt-of-le (c .loop-test .taken) (c .before .before .before .before .pre .within)
+turn-of-requires c κs = omega (arith, c .before .before .before .before .pre .within)
 
 line-of-requires : tie.Need-line-of-requires Inv-loop μ-loop
-line-of-requires c κs = lt-of-lt-of-le (c .before .loop-test .taken) (c .before .before .before .before .before .pre .within)
+line-of-requires c κs = omega (arith, c .before .before .before .before .before .pre .within)
 
 solve-one-requires : tie.Need-solve-one-requires Inv-loop μ-loop
-solve-one-requires c κs = turn-at _ _ _ _ _ (c .before .before .before .before .before .before .before .pre .sided) _ _ _ _ (lt-of-lt-of-le (c .before .before .before .loop-test .taken) (c .before .before .before .before .before .before .before .pre .within)) (c .before .before .turn-of .ensures) (c .before .line-of .ensures) (ap (λ (n : ℕ). n / 2) (c .before .before .before .before .loop .inv .1))
+solve-one-requires c κs = turn-at _ _ _ _ _ (c .before .before .before .before .before .before .before .pre .sided) _ _ _ _ (omega (arith, c .before .before .before .before .before .before .before .pre .within)) (c .before .before .turn-of .ensures) (c .before .line-of .ensures) (ap (λ (n : ℕ). n / 2) (c .before .before .before .before .loop .inv .1))
 
 add-done : tie.Need-add-done Inv-loop μ-loop
 add-done c = omega arith
@@ -43,7 +42,7 @@ same-length : tie.Need-same-length Inv-loop μ-loop
 same-length c = c .before .loop .inv .1
 
 returns : tie.Need-returns Inv-loop μ-loop
-returns c = solved-end complex _ _ _ _ _ _ _ _ _ _ _ (c .before .loop .inv .0) (c .loop-test .left) (c .before .loop .inv .2)
+returns c = solved-end complex _ _ _ _ _ _ _ _ _ _ _ (c .before .loop .inv .0) (omega arith) (c .before .loop .inv .2)
 
 pub solve-first-spec : {M : Type 1} → statement M
 solve-first-spec =

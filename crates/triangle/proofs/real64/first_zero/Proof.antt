@@ -22,13 +22,13 @@ loop-holds : tie.Need-loop-holds Inv-loop μ-loop
 loop-holds c = (omega arith, clear-start _)
 
 solved-after-requires : tie.Need-solved-after-requires Inv-loop μ-loop
-solved-after-requires c κs = omega (arith, c .before .before .order-of .ensures, c .loop-test .taken)
+solved-after-requires c κs = omega (arith, c .before .before .order-of .ensures)
 
 zero-pivot-requires : tie.Need-zero-pivot-requires Inv-loop μ-loop
 zero-pivot-requires c κs = pivot-in _ _ _ _ _ (c .before .before .before .before .before .pre) (c .solved-after .ensures .1)
 
 returns : tie.Need-returns Inv-loop μ-loop
-returns c = first-found _ _ _ _ (c .before .before .before .before .before .order-of .ensures) (c .before .before .before .loop-test .taken) (c .before .before .before .before .loop .inv .1) (zero-told real64 _ _ _ _ _ _ _ _ _ _ (c .before .before .solved-after .ensures .0) (c .before .zero-pivot .ensures) (c .if1 .taken))
+returns c = first-found _ _ _ _ (c .before .before .before .before .before .order-of .ensures) (omega arith) (c .before .before .before .before .loop .inv .1) (zero-told real64 _ _ _ _ _ _ _ _ _ _ (c .before .before .solved-after .ensures .0) (c .before .zero-pivot .ensures) (c .if1 .taken))
 
 add-k : tie.Need-add-k Inv-loop μ-loop
 add-k c = omega arith
@@ -40,7 +40,7 @@ loop-again : tie.Need-loop-again Inv-loop μ-loop
 loop-again c = (omega arith, clear-next _ _ (c .before .before .before .before .loop .inv .1) (zero-told real64 _ _ _ _ _ _ _ _ _ _ (c .before .before .solved-after .ensures .0) (c .before .zero-pivot .ensures) (c .if1 .left)))
 
 returns-2 : tie.Need-returns-2 Inv-loop μ-loop
-returns-2 c = first-nowhere _ _ _ _ (c .before .before .order-of .ensures) (c .before .loop .inv .0) (c .loop-test .left) (c .before .loop .inv .1)
+returns-2 c = first-nowhere _ _ _ _ (c .before .before .order-of .ensures) (c .before .loop .inv .0) (omega arith) (c .before .loop .inv .1)
 
 pub first-zero-spec : {M : Type 1} → statement M
 first-zero-spec =
