@@ -1,14 +1,11 @@
--- Substitution as a loop meets it: a difference's and a solve's first and next step, and where the n-th element stands.
-use Prim.Native.Nat.{ℕ, zero, suc, _+_, _*_, _/_, _≤_, _<_, zero-le}
-use mathlib.Core.Bool.{Bool, true, false, cond, _&&_}
+-- Substitution as a loop meets it: a difference's and a solve's first and next step, the first zero pivot, and where the n-th element stands.
+use Prim.Native.Nat.{ℕ, zero, suc, _+_, _*_, _/_, _≤_, _<_}
+use mathlib.Core.Bool.{Bool, true, false, cond}
 use mathlib.Core.List.{List}
-use mathlib.Core.Path.{_≡_, refl, ap, sym, subst, _∙_}
-use native.Mathlib.Decide.{ℕ-discrete}
-use native.Mathlib.Nat.{zero-mul, mul-comm, mul-one, mul-div-cancel, mul-le-mul-left, mul-lt-mul-of-pos-right, mod-lt, mod-le, mod-eq-of-lt, div-lt-iff-lt-mul, div-mul-le-self, lt-trans, lt-of-lt-of-le, lt-of-le-of-lt}
+use mathlib.Core.Path.{_≡_, refl, ap, subst, _∙_}
+use native.Mathlib.Nat.{zero-mul, mul-comm, mul-one, mul-le-mul-left, mul-lt-mul-of-pos-right, mod-lt, div-lt-iff-lt-mul, lt-of-lt-of-le}
 use native.Mathlib.Numerals.{add-one}
 use native.Mathlib.Omega.{arith}
-use lib.Dec.{ltb}
-use borrow.Author.Tests.{lt-ltb, ltb-true}
 use Rattle.number.specs.Kind.{Kind}
 use Rattle.view.specs.declared.View.{View}
 use Rattle.view.specs.declared.Side.{Side}
@@ -17,13 +14,9 @@ use Rattle.view.specs.declared.Trans.{Trans}
 use Rattle.view.specs.declared.UpLo.{UpLo}
 use Rattle.view.specs.declared.Diag.{Diag}
 use Rattle.view.specs.Checks.{orderOf}
-use Rattle.view.specs.declared.Answer.{Answer}
-use Rattle.view.specs.declared.Answer.the-variants.{Done, Singular}
-use Rattle.view.specs.Any.{any}
-use Rattle.view.specs.AnyLaws.{found, none, and-both, and-left, and-right, is-false, clash}
+use Rattle.view.specs.AnyLaws.{none, clash}
 use Rattle.blas.specs.Matrix.{Matrix}
-use Rattle.blas.specs.Outcome.{Outcome, Gives}
-use Rattle.blas.specs.Substitution.{unknownAt, unknown, brings, byPivot, lastFirst, inOrder, leastSolved, turnOf, lineOf, elementsBefore, firstAt, less, zeroPivot, solveOne, solved, singular, substituted}
+use Rattle.blas.specs.Substitution.{inOrder, leastSolved, turnOf, lineOf, elementsBefore, firstAt, less, solveOne, solved}
 
 -- ---- a difference
 
@@ -138,18 +131,6 @@ turn-lt Left v n h = mod-lt n (factor-pos n (v .rows) (v .cols) h)
 turn-lt Right v n h = quotient-lt n (v .rows) (v .cols) h
 
 -- ---- the first element of an unknown
-
-pub first-element : (side : Side) (v : View) (k : ℕ) → 0 < v .rows → k < orderOf side v → turnOf side v (elementsBefore side v k) ≡ k
-first-element Left v k p h = mod-eq-of-lt h
-first-element Right v k p h = mul-div-cancel k p
-
-pub first-element-le : (side : Side) (v : View) (n : ℕ) → elementsBefore side v (turnOf side v n) ≤ n
-first-element-le Left v n = mod-le n (v .rows)
-first-element-le Right v n = div-mul-le-self n (v .rows)
-
-pub first-element-lt : (side : Side) (v : View) (j k : ℕ) → 0 < v .rows → j < k → elementsBefore side v j < elementsBefore side v k
-first-element-lt Left v j k p h = h
-first-element-lt Right v j k p h = mul-lt-mul-of-pos-right h p
 
 pub first-element-in : (side : Side) (v : View) (k : ℕ) → 0 < v .rows * v .cols → k < orderOf side v → elementsBefore side v k < v .rows * v .cols
 first-element-in Left v k p h = below (v .rows) (v .cols) k (factor-pos 0 (v .cols) (v .rows) (subst (λ (n : ℕ). 0 < n) (mul-comm (v .rows) (v .cols)) p)) h

@@ -3,7 +3,7 @@ use Prim.Native.Nat.{ℕ, _+_, _*_, _<_, _≤_, _^_}
 use mathlib.Core.Bool.{Bool, true, false, cond}
 use mathlib.Core.Path.{_≡_, refl, ap, sym, subst, _∙_}
 use mathlib.Core.List.{List}
-use native.Mathlib.Nat.{le-trans, mod-lt, mul-le-mul}
+use native.Mathlib.Nat.{mod-lt, mul-le-mul}
 use native.Mathlib.Omega.{arith}
 use lib.Ieee.{Float, Format}
 use Rattle.number.specs.Kind.{Kind, real}
@@ -139,9 +139,6 @@ module _ (side : Side) (va : View) (la : ℕ) (vb : View) (lb : ℕ) (s : Sided 
   -- so that B's elements are not many
   pub small : (vb .rows ≤ limit) × (vb .cols ≤ limit)
   small = (s .b .rows-le, s .b .cols-le)
-
-  pub many : (n : ℕ) → n ≤ vb .rows * vb .cols → n ≤ limit * limit
-  many n h = le-trans h (mul-le-mul (s .b .rows-le) (s .b .cols-le))
 
   pub pivots : Pivots side va la vb
   pivots = record { a = s .a; rows = s .rows; cols = s .cols }

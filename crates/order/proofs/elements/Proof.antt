@@ -1,6 +1,5 @@
 use Prim.Native.Nat.{_*_}
 use Rattle.order.proofs.Places.{product-le}
-use mathlib.Core.Path.{_≡_}
 use native.Mathlib.Omega.{arith}
 use borrow.Author.Needs.{needs}
 use Rattle.order.proofs.elements.Statement.{statement}
