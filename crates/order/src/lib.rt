@@ -1,4 +1,5 @@
 // In what order the triangular routines go over their target, how far, and where they read and write: the same for every number kind.
+// Translated from control-rs; NOTICE names the source.
 
 ghost use mathlib.Core.Path.{_≡_};
 ghost use mathlib.Core.Bool.{not, _&&_};
