@@ -1,12 +1,11 @@
 # make demo: the two-point path. make test: the gate. The rest builds the archive, tests its bindings and compares with the Rust (oracle/).
 .PHONY: demo numbers test archive c-test rust-test oracle-test lists counts compare bench need-rt need-cargo need-cc
 
+ARCHIVE = target/staticlib/libcapi.a
+
 # From C and from Rust, through the proved archive.
-demo: need-rt need-cc need-cargo
-	@mkdir -p target
-	@echo "Proving the kernels and building libcapi.a (about five minutes from nothing, seconds after that) .."
-	@rt staticlib capi > target/demo.log 2>&1 || { tail -n 20 target/demo.log; echo "make demo: not proved; target/demo.log has the whole report" >&2; exit 1; }
-	@$(CC) -std=c11 -O1 -Wall -Wextra -Iinclude -o target/two_point demo/two_point.c target/staticlib/libcapi.a
+demo: need-rt need-cc need-cargo $(ARCHIVE)
+	@$(CC) -std=c11 -O1 -Wall -Wextra -Iinclude -o target/two_point demo/two_point.c $(ARCHIVE)
 	@echo "From C (demo/two_point.c)"
 	@echo
 	@target/two_point
@@ -27,12 +26,17 @@ test: need-rt
 	rt fmt --check
 	rt ci
 
-# target/staticlib/libcapi.a, for C and Rust; include/zirve_blas.h declares its functions.
-archive: need-rt
-	rt staticlib capi
+# For C and Rust; include/zirve_blas.h declares its functions. Built again when a crate has changed.
+archive: $(ARCHIVE)
+
+$(ARCHIVE): crates.txt $(shell find crates -name '*.rt' -o -name '*.antt') | need-rt
+	@mkdir -p target
+	@echo "Proving the kernels and building $(ARCHIVE) (some minutes from nothing) .."
+	@rt staticlib capi > target/archive.log 2>&1 || { tail -n 20 target/archive.log; echo "not proved; target/archive.log has the whole report" >&2; exit 1; }
+	@touch $(ARCHIVE)
 
 c-test: archive need-cc
-	$(CC) -std=c11 -O1 -Wall -Wextra -Iinclude -o target/c-test tests/c/*.c target/staticlib/libcapi.a -lm
+	$(CC) -std=c11 -O1 -Wall -Wextra -Iinclude -o target/c-test tests/c/*.c $(ARCHIVE) -lm
 	target/c-test
 
 rust-test: archive need-cargo

@@ -1,11 +1,9 @@
 // The triangular products and solves of complex numbers.
 
-ghost use mathlib.Core.Bool.{cond};
 ghost use mathlib.Core.Path.{_≡_};
 ghost use Prim.Native.Nat.{_*_, _<_};
 ghost use Rattle.number.specs.Kind.{complex};
 ghost use Rattle.slab.specs.Elem.{elem, lent};
-ghost use Rattle.view.specs.Checks.{orderOf};
 ghost use Rattle.view.specs.Steps.{Accepted};
 ghost use Rattle.slab.specs.Update.{step, row, everywhere};
 ghost use Rattle.blas.specs.Matrix.{op};
@@ -17,20 +15,24 @@ ghost use Rattle.blas.specs.Trsv;
 ghost use Rattle.blas.specs.Trmm;
 ghost use Rattle.blas.specs.Trmv;
 ghost use Rattle.blas.specs.Triangular.{triangular};
-ghost use Rattle.triangle.specs.Multiply as multiply;
-ghost use Rattle.triangle.specs.Ready.{timesIf, InSquare, InB, Sided, SidedAt, SidedRange, Pivots};
-use crate::order::conjugated;
-use crate::order::goes_into;
-use crate::order::in_order;
-use crate::order::last_first;
-use crate::order::least_solved;
-use crate::order::line_of;
-use crate::order::op_coord;
-use crate::order::order_of;
-use crate::order::turn_of;
-use crate::order::unit_at;
-use crate::order::unknown_coord;
+ghost use Rattle.order.specs.Multiply as multiply;
+ghost use Rattle.order.specs.Ready.{timesIf, InSquare, InB, Sided, SidedAt, SidedFirst, SidedRange, Pivots};
+ghost use Rattle.order.specs.Reach.{reduced, firstZero};
 use number::Complex;
+use order::conjugated;
+use order::elements;
+use order::goes_into;
+use order::least_solved;
+use order::line_of;
+use order::multiplied_after;
+use order::op_coord;
+use order::order_of;
+use order::reached;
+use order::solved_after;
+use order::turn_of;
+use order::unit_at;
+use order::unknown_coord;
+use order::verdict;
 use slab::get_complex;
 use slab::put_complex;
 use view::Answer;
@@ -103,7 +105,7 @@ fn reduce(
     x: Complex,
 ) -> Complex
     requires { ⌜ SidedRange side va (complex .count (now a)) vb (complex .count (now b)) q l from n ⌝ }
-    ensures { λ r. ⌜ r ≡ substitution.less complex x (λ p. substitution.brings complex side t (elem complex (now (a .entry)) va) q p (substitution.unknown complex side (now (b .entry)) vb p l)) from n ⌝ }
+    ensures { λ r. ⌜ r ≡ reduced complex side t (elem complex (now (a .entry)) va) vb (now (b .entry)) q l from n x ⌝ }
 {
     let mut rest = x;
     let mut i = 0;
@@ -161,32 +163,54 @@ fn solve_one(
     requires { ⌜ SidedAt side va (complex .count (now a)) vb (complex .count (now b)) k l ⌝ }
     ensures { λ _. ⌜ now (b .exit) ≡ substitution.solveOne complex side uplo t diag (timesIf complex times alpha) (elem complex (now (a .entry)) va) vb k l (now (b .entry)) ⌝ }
 {
-    let last = last_first(side, uplo, t);
-    let m = order_of(side, vb);
-    let q = in_order(last, m, k);
-    let from = least_solved(last, m, k);
+    let q = solved_after(side, uplo, t, vb, k);
+    let from = least_solved(side, uplo, t, vb, k);
     let x = times_if(times, alpha, unknown(side, b, vb, q, l));
     let rest = reduce(side, t, a, va, b, vb, q, l, from, k, x);
     let y = by_pivot(diag, t, a, va, q, rest);
     replace(side, b, vb, q, l, y);
 }
 
-// Whether the pivot of the unknown that comes after k others is zero.
-fn singular_at(
+// How many unknowns come before the first zero pivot in solving order; all where there is none.
+fn first_zero(side: Side, uplo: UpLo, t: Trans, diag: Diag, a: &[f64], va: View, vb: View) -> usize
+    requires { ⌜ Pivots side va (complex .count (now a)) vb ⌝ }
+    ensures { λ r. ⌜ r ≡ firstZero complex side uplo t diag (elem complex (now (a .entry)) va) vb ⌝ }
+{
+    let m = order_of(side, vb);
+    let mut k = 0;
+    while k < m {
+        if zero_pivot(diag, a, va, solved_after(side, uplo, t, vb, k)) {
+            return k;
+        }
+        k += 1;
+    }
+    k
+}
+
+// The first n elements in solving order solved.
+fn solve_first(
     side: Side,
     uplo: UpLo,
     t: Trans,
     diag: Diag,
+    times: bool,
+    alpha: Complex,
     a: &[f64],
     va: View,
+    b: &mut [f64],
     vb: View,
-    k: usize,
-) -> bool
-    requires { ⌜ Pivots side va (complex .count (now a)) vb k ⌝ }
-    ensures { λ r. ⌜ r ≡ substitution.zeroPivot complex diag (elem complex (now (a .entry)) va) (substitution.inOrder (substitution.lastFirst side uplo t) (orderOf side vb) k) ⌝ }
+    n: usize,
+)
+    requires { ⌜ SidedFirst side va (complex .count (now a)) vb (complex .count (now b)) n ⌝ }
+    ensures { λ _. ⌜ now (b .exit) ≡ substitution.solved complex side uplo t diag (timesIf complex times alpha) (elem complex (now (a .entry)) va) vb n (now (b .entry)) ⌝ }
 {
-    let q = in_order(last_first(side, uplo, t), order_of(side, vb), k);
-    zero_pivot(diag, a, va, q)
+    let mut done = 0;
+    while done < n {
+        let k = turn_of(side, vb, done);
+        let l = line_of(side, vb, done);
+        solve_one(side, uplo, t, diag, times, alpha, a, va, b, vb, k, l);
+        done += 1;
+    }
 }
 
 // Every element in solving order solved, up to the first zero pivot.
@@ -205,18 +229,10 @@ fn solve(
     requires { ⌜ Sided side va (complex .count (now a)) vb (complex .count (now b)) ⌝ }
     ensures { λ r. ⌜ Gives complex (substitution.substituted complex side uplo t diag (timesIf complex times alpha) (elem complex (now (a .entry)) va) vb (now (b .entry))) r (now (b .exit)) ⌝ }
 {
-    let total = rows(vb) * cols(vb);
-    let mut n = 0;
-    while n < total {
-        let k = turn_of(side, vb, n);
-        let l = line_of(side, vb, n);
-        if singular_at(side, uplo, t, diag, a, va, vb, k) {
-            return Answer::Singular;
-        }
-        solve_one(side, uplo, t, diag, times, alpha, a, va, b, vb, k, l);
-        n += 1;
-    }
-    Answer::Done
+    let k = first_zero(side, uplo, t, diag, a, va, vb);
+    let n = reached(side, vb, k);
+    solve_first(side, uplo, t, diag, times, alpha, a, va, b, vb, n);
+    verdict(side, vb, k)
 }
 
 // Element (i, j) of B times alpha.
@@ -326,7 +342,7 @@ fn add_term(
     sum: Complex,
 ) -> Complex
     requires { ⌜ SidedRange side va (complex .count (now a)) vb (complex .count (now b)) q l p 1 ⌝ }
-    ensures { λ r. ⌜ r ≡ cond (multiply.goesInto side uplo t q p) (complex .add sum (multiply.weighs complex side diag t (elem complex (now (a .entry)) va) q p (substitution.unknown complex side (now (b .entry)) vb p l))) sum ⌝ }
+    ensures { λ r. ⌜ r ≡ multiply.addTerm complex side uplo t diag (elem complex (now (a .entry)) va) vb (now (b .entry)) q l p sum ⌝ }
 {
     if goes_into(side, uplo, t, q, p) {
         sum.add(weighs(side, diag, t, a, va, q, p, unknown(side, b, vb, p, l)))
@@ -379,9 +395,8 @@ fn multiply_one(
     requires { ⌜ SidedAt side va (complex .count (now a)) vb (complex .count (now b)) k l ⌝ }
     ensures { λ _. ⌜ now (b .exit) ≡ multiply.multiplyOne complex side uplo t diag (timesIf complex times alpha) (elem complex (now (a .entry)) va) vb k l (now (b .entry)) ⌝ }
 {
-    let last = last_first(side, uplo, t);
+    let q = multiplied_after(side, uplo, t, vb, k);
     let m = order_of(side, vb);
-    let q = in_order(!last, m, k);
     let sum = line_dot(side, uplo, t, diag, a, va, b, vb, m, q, l);
     replace(side, b, vb, q, l, times_if(times, alpha, sum));
 }
@@ -402,7 +417,7 @@ fn multiply(
     requires { ⌜ Sided side va (complex .count (now a)) vb (complex .count (now b)) ⌝ }
     ensures { λ _. ⌜ now (b .exit) ≡ multiply.multiplied complex side uplo t diag (timesIf complex times alpha) (elem complex (now (a .entry)) va) vb (vb .rows * vb .cols) (now (b .entry)) ⌝ }
 {
-    let total = rows(vb) * cols(vb);
+    let total = elements(vb);
     let mut n = 0;
     while n < total {
         let k = turn_of(side, vb, n);

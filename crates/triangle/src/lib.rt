@@ -2,6 +2,5 @@
 // Translated from control-rs; NOTICE names the source.
 
 pub mod complex;
-mod order;
 pub mod real32;
 pub mod real64;

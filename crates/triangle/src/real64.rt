@@ -1,11 +1,9 @@
 // The triangular products and solves of f64.
 
-ghost use mathlib.Core.Bool.{cond};
 ghost use mathlib.Core.Path.{_≡_};
 ghost use Prim.Native.Nat.{_*_, _<_};
 ghost use Rattle.number.specs.Kind.{real64};
 ghost use Rattle.slab.specs.Elem.{elem, lent};
-ghost use Rattle.view.specs.Checks.{orderOf};
 ghost use Rattle.view.specs.Steps.{Accepted};
 ghost use Rattle.slab.specs.Update.{step, row, everywhere};
 ghost use Rattle.blas.specs.Matrix.{op};
@@ -17,19 +15,23 @@ ghost use Rattle.blas.specs.Trsv;
 ghost use Rattle.blas.specs.Trmm;
 ghost use Rattle.blas.specs.Trmv;
 ghost use Rattle.blas.specs.Triangular.{triangular};
-ghost use Rattle.triangle.specs.Multiply as multiply;
-ghost use Rattle.triangle.specs.Ready.{timesIf, InSquare, InB, Sided, SidedAt, SidedRange, Pivots};
-use crate::order::goes_into;
-use crate::order::in_order;
-use crate::order::last_first;
-use crate::order::least_solved;
-use crate::order::line_of;
-use crate::order::op_coord;
-use crate::order::order_of;
-use crate::order::turn_of;
-use crate::order::unit_at;
-use crate::order::unknown_coord;
+ghost use Rattle.order.specs.Multiply as multiply;
+ghost use Rattle.order.specs.Ready.{timesIf, InSquare, InB, Sided, SidedAt, SidedFirst, SidedRange, Pivots};
+ghost use Rattle.order.specs.Reach.{reduced, firstZero};
 use number::Real64;
+use order::elements;
+use order::goes_into;
+use order::least_solved;
+use order::line_of;
+use order::multiplied_after;
+use order::op_coord;
+use order::order_of;
+use order::reached;
+use order::solved_after;
+use order::turn_of;
+use order::unit_at;
+use order::unknown_coord;
+use order::verdict;
 use slab::get64;
 use slab::put64;
 use view::Answer;
@@ -101,7 +103,7 @@ fn reduce(
     x: Real64,
 ) -> Real64
     requires { ⌜ SidedRange side va (real64 .count (now a)) vb (real64 .count (now b)) q l from n ⌝ }
-    ensures { λ r. ⌜ r .0 ≡ substitution.less real64 (x .0) (λ p. substitution.brings real64 side t (elem real64 (now (a .entry)) va) q p (substitution.unknown real64 side (now (b .entry)) vb p l)) from n ⌝ }
+    ensures { λ r. ⌜ r .0 ≡ reduced real64 side t (elem real64 (now (a .entry)) va) vb (now (b .entry)) q l from n (x .0) ⌝ }
 {
     let mut rest = x;
     let mut i = 0;
@@ -159,32 +161,54 @@ fn solve_one(
     requires { ⌜ SidedAt side va (real64 .count (now a)) vb (real64 .count (now b)) k l ⌝ }
     ensures { λ _. ⌜ now (b .exit) ≡ substitution.solveOne real64 side uplo t diag (timesIf real64 times (alpha .0)) (elem real64 (now (a .entry)) va) vb k l (now (b .entry)) ⌝ }
 {
-    let last = last_first(side, uplo, t);
-    let m = order_of(side, vb);
-    let q = in_order(last, m, k);
-    let from = least_solved(last, m, k);
+    let q = solved_after(side, uplo, t, vb, k);
+    let from = least_solved(side, uplo, t, vb, k);
     let x = times_if(times, alpha, unknown(side, b, vb, q, l));
     let rest = reduce(side, t, a, va, b, vb, q, l, from, k, x);
     let y = by_pivot(diag, t, a, va, q, rest);
     replace(side, b, vb, q, l, y);
 }
 
-// Whether the pivot of the unknown that comes after k others is zero.
-fn singular_at(
+// How many unknowns come before the first zero pivot in solving order; all where there is none.
+fn first_zero(side: Side, uplo: UpLo, t: Trans, diag: Diag, a: &[f64], va: View, vb: View) -> usize
+    requires { ⌜ Pivots side va (real64 .count (now a)) vb ⌝ }
+    ensures { λ r. ⌜ r ≡ firstZero real64 side uplo t diag (elem real64 (now (a .entry)) va) vb ⌝ }
+{
+    let m = order_of(side, vb);
+    let mut k = 0;
+    while k < m {
+        if zero_pivot(diag, a, va, solved_after(side, uplo, t, vb, k)) {
+            return k;
+        }
+        k += 1;
+    }
+    k
+}
+
+// The first n elements in solving order solved.
+fn solve_first(
     side: Side,
     uplo: UpLo,
     t: Trans,
     diag: Diag,
+    times: bool,
+    alpha: Real64,
     a: &[f64],
     va: View,
+    b: &mut [f64],
     vb: View,
-    k: usize,
-) -> bool
-    requires { ⌜ Pivots side va (real64 .count (now a)) vb k ⌝ }
-    ensures { λ r. ⌜ r ≡ substitution.zeroPivot real64 diag (elem real64 (now (a .entry)) va) (substitution.inOrder (substitution.lastFirst side uplo t) (orderOf side vb) k) ⌝ }
+    n: usize,
+)
+    requires { ⌜ SidedFirst side va (real64 .count (now a)) vb (real64 .count (now b)) n ⌝ }
+    ensures { λ _. ⌜ now (b .exit) ≡ substitution.solved real64 side uplo t diag (timesIf real64 times (alpha .0)) (elem real64 (now (a .entry)) va) vb n (now (b .entry)) ⌝ }
 {
-    let q = in_order(last_first(side, uplo, t), order_of(side, vb), k);
-    zero_pivot(diag, a, va, q)
+    let mut done = 0;
+    while done < n {
+        let k = turn_of(side, vb, done);
+        let l = line_of(side, vb, done);
+        solve_one(side, uplo, t, diag, times, alpha, a, va, b, vb, k, l);
+        done += 1;
+    }
 }
 
 // Every element in solving order solved, up to the first zero pivot.
@@ -203,18 +227,10 @@ fn solve(
     requires { ⌜ Sided side va (real64 .count (now a)) vb (real64 .count (now b)) ⌝ }
     ensures { λ r. ⌜ Gives real64 (substitution.substituted real64 side uplo t diag (timesIf real64 times (alpha .0)) (elem real64 (now (a .entry)) va) vb (now (b .entry))) r (now (b .exit)) ⌝ }
 {
-    let total = rows(vb) * cols(vb);
-    let mut n = 0;
-    while n < total {
-        let k = turn_of(side, vb, n);
-        let l = line_of(side, vb, n);
-        if singular_at(side, uplo, t, diag, a, va, vb, k) {
-            return Answer::Singular;
-        }
-        solve_one(side, uplo, t, diag, times, alpha, a, va, b, vb, k, l);
-        n += 1;
-    }
-    Answer::Done
+    let k = first_zero(side, uplo, t, diag, a, va, vb);
+    let n = reached(side, vb, k);
+    solve_first(side, uplo, t, diag, times, alpha, a, va, b, vb, n);
+    verdict(side, vb, k)
 }
 
 // Element (i, j) of B times alpha.
@@ -324,7 +340,7 @@ fn add_term(
     sum: Real64,
 ) -> Real64
     requires { ⌜ SidedRange side va (real64 .count (now a)) vb (real64 .count (now b)) q l p 1 ⌝ }
-    ensures { λ r. ⌜ r .0 ≡ cond (multiply.goesInto side uplo t q p) (real64 .add (sum .0) (multiply.weighs real64 side diag t (elem real64 (now (a .entry)) va) q p (substitution.unknown real64 side (now (b .entry)) vb p l))) (sum .0) ⌝ }
+    ensures { λ r. ⌜ r .0 ≡ multiply.addTerm real64 side uplo t diag (elem real64 (now (a .entry)) va) vb (now (b .entry)) q l p (sum .0) ⌝ }
 {
     if goes_into(side, uplo, t, q, p) {
         sum.add(weighs(side, diag, t, a, va, q, p, unknown(side, b, vb, p, l)))
@@ -377,9 +393,8 @@ fn multiply_one(
     requires { ⌜ SidedAt side va (real64 .count (now a)) vb (real64 .count (now b)) k l ⌝ }
     ensures { λ _. ⌜ now (b .exit) ≡ multiply.multiplyOne real64 side uplo t diag (timesIf real64 times (alpha .0)) (elem real64 (now (a .entry)) va) vb k l (now (b .entry)) ⌝ }
 {
-    let last = last_first(side, uplo, t);
+    let q = multiplied_after(side, uplo, t, vb, k);
     let m = order_of(side, vb);
-    let q = in_order(!last, m, k);
     let sum = line_dot(side, uplo, t, diag, a, va, b, vb, m, q, l);
     replace(side, b, vb, q, l, times_if(times, alpha, sum));
 }
@@ -400,7 +415,7 @@ fn multiply(
     requires { ⌜ Sided side va (real64 .count (now a)) vb (real64 .count (now b)) ⌝ }
     ensures { λ _. ⌜ now (b .exit) ≡ multiply.multiplied real64 side uplo t diag (timesIf real64 times (alpha .0)) (elem real64 (now (a .entry)) va) vb (vb .rows * vb .cols) (now (b .entry)) ⌝ }
 {
-    let total = rows(vb) * cols(vb);
+    let total = elements(vb);
     let mut n = 0;
     while n < total {
         let k = turn_of(side, vb, n);

@@ -1,4 +1,6 @@
-use Rattle.blas.proofs.OverLaws.{over-start, over-next, over-end}
+use Rattle.order.proofs.Parts.{term-next}
+use Rattle.blas.proofs.OverLaws.{over-start, over-end}
+use Rattle.order.specs.Multiply.{lineDot}
 use Rattle.number.proofs.Literals.{zero-literal}
 use lib.Ieee.{binary64}
 use Prim.Native.Nat.{_≤_, _-_}
@@ -6,15 +8,12 @@ use native.Mathlib.Omega.{arith}
 use mathlib.Core.Path.{_≡_, sym, _∙_}
 use Rattle.number.specs.Kind.{complex}
 use Rattle.slab.specs.Elem.{elem}
-use Rattle.blas.specs.Matrix.{sumOver}
-use Rattle.blas.specs.Substitution.{unknown}
-use Rattle.triangle.specs.Multiply.{goesInto, weighs}
-use Rattle.triangle.proofs.Places.{term-in}
+use Rattle.order.proofs.Places.{term-in}
 use Rattle.triangle.proofs.complex.line_dot.Statement.{statement}
 use Rattle.triangle.proofs.complex.line_dot.Tie as tie
 
 abbrev Inv-loop : tie.InvT-loop
-Inv-loop side uplo t diag a va b vb n q l sum₀ p₀ sum p = (p ≤ n) × (sum ≡ sumOver complex p (λ r. goesInto side uplo t q r) (λ r. weighs complex side diag t (elem complex a va) q r (unknown complex side b vb r l)))
+Inv-loop side uplo t diag a va b vb n q l sum₀ p₀ sum p = (p ≤ n) × (sum ≡ lineDot complex side uplo t diag (elem complex a va) vb p b q l)
 
 abbrev μ-loop : tie.MeasureT-loop
 μ-loop side uplo t diag a va b vb n q l sum₀ p₀ sum p = n - p
@@ -32,10 +31,10 @@ loop-less : tie.Need-loop-less Inv-loop μ-loop
 loop-less c = omega arith
 
 loop-again : tie.Need-loop-again Inv-loop μ-loop
-loop-again c = (omega arith, over-next complex _ _ _ _ _ (c .before .before .loop .inv .1) (c .add-term .ensures))
+loop-again c = (omega arith, term-next complex _ _ _ _ _ _ _ _ _ _ _ _ (c .before .before .loop .inv .1) (c .add-term .ensures))
 
 returns : tie.Need-returns Inv-loop μ-loop
-returns c = over-end complex _ _ _ _ _ (c .before .loop .inv .0) (omega arith) (c .before .loop .inv .1)
+returns c = over-end complex _ _ _ _ _ (c .before .loop .inv .0) (c .loop-test .left) (c .before .loop .inv .1)
 
 pub line-dot-spec : {M : Type 1} → statement M
 line-dot-spec =

@@ -1,13 +1,12 @@
-use mathlib.Core.Path.{ap, _≡_, refl, _∙_}
-use Prim.Native.Nat.{ℕ, _/_, _≤_, _-_}
-use Rattle.triangle.proofs.Places.{all-le, counted, below, turn-at}
-use Rattle.triangle.proofs.Multiplies.{multiplied-start, multiplied-next, multiplied-end}
+use Prim.Native.Nat.{ℕ, _≤_, _-_, _/_}
 use Rattle.number.specs.Kind.{complex}
+use Rattle.order.proofs.Multiplies.{multiplied-start, multiplied-next, multiplied-end}
+use Rattle.order.proofs.Places.{small, turn-at}
+use Rattle.order.specs.Multiply.{multiplied}
+use Rattle.order.specs.Ready.{timesIf}
 use Rattle.slab.specs.Elem.{elem}
-use Rattle.triangle.specs.Multiply.{multiplied}
-use Rattle.triangle.specs.Ready.{timesIf}
-use borrow.Author.Needs.{needs}
 use lib.ListN.{length}
+use mathlib.Core.Path.{_≡_, refl, ap, _∙_}
 use native.Mathlib.Omega.{arith}
 use Rattle.triangle.proofs.complex.multiply.Statement.{statement}
 use Rattle.triangle.proofs.complex.multiply.Tie as tie
@@ -18,29 +17,23 @@ Inv-loop side uplo t diag times alpha a va b₀ vb total n₀ b n = (n ≤ total
 abbrev μ-loop : tie.MeasureT-loop
 μ-loop side uplo t diag times alpha a va b₀ vb total n₀ b n = total - n
 
-rows-requires : tie.Need-rows-requires Inv-loop μ-loop
-rows-requires c κs = search needs
-
-cols-requires : tie.Need-cols-requires Inv-loop μ-loop
-cols-requires c κs = search needs
-
-mul-total : tie.Need-mul-total Inv-loop μ-loop
-mul-total c = omega (arith, all-le _ _ _ _ _ (c .before .before .before .before .pre) _ _ (c .before .rows .ensures) (c .cols .ensures))
+elements-requires : tie.Need-elements-requires Inv-loop μ-loop
+elements-requires c κs = small _ _ _ _ _ (c .before .before .pre)
 
 loop-holds : tie.Need-loop-holds Inv-loop μ-loop
 loop-holds c = (omega arith, refl, multiplied-start complex _ _ _ _ _ _ _ _)
 
 turn-of-requires : tie.Need-turn-of-requires Inv-loop μ-loop
-turn-of-requires c κs = below (c .before .before .before .before .before .before .args .vb) _ _ _ (c .before .before .before .rows .ensures) (c .before .before .cols .ensures) (c .loop-test .taken)
+turn-of-requires c κs = omega (arith, c .before .before .elements .ensures, c .loop-test .taken)
 
 line-of-requires : tie.Need-line-of-requires Inv-loop μ-loop
-line-of-requires c κs = below (c .before .before .before .before .before .before .before .args .vb) _ _ _ (c .before .before .before .before .rows .ensures) (c .before .before .before .cols .ensures) (c .before .loop-test .taken)
+line-of-requires c κs = omega (arith, c .before .before .before .elements .ensures, c .before .loop-test .taken)
 
 multiply-one-requires : tie.Need-multiply-one-requires Inv-loop μ-loop
-multiply-one-requires c κs = turn-at _ _ _ _ (c .before .before .before .before .before .before .rows .ensures) (c .before .before .before .before .before .cols .ensures) _ _ _ _ _ (c .before .before .before .before .before .before .before .before .before .pre) (c .before .before .before .loop-test .taken) (c .before .before .turn-of .ensures) _ _ (c .before .line-of .ensures) (ap (λ (n : ℕ). n / 2) (c .before .before .before .before .loop .inv .1))
+multiply-one-requires c κs = turn-at _ _ _ _ _ (c .before .before .before .before .before .before .before .before .pre) _ _ _ _ (omega (arith, c .before .before .before .before .before .elements .ensures, c .before .before .before .loop-test .taken)) (c .before .before .turn-of .ensures) (c .before .line-of .ensures) (ap (λ (n : ℕ). n / 2) (c .before .before .before .before .loop .inv .1))
 
 add-n : tie.Need-add-n Inv-loop μ-loop
-add-n c = omega (arith, all-le _ _ _ _ _ (c .before .before .before .before .before .before .before .before .before .before .before .before .pre) _ _ (c .before .before .before .before .before .before .before .before .before .rows .ensures) (c .before .before .before .before .before .before .before .before .cols .ensures))
+add-n c = omega arith
 
 loop-less : tie.Need-loop-less Inv-loop μ-loop
 loop-less c = omega arith
@@ -52,7 +45,7 @@ same-length : tie.Need-same-length Inv-loop μ-loop
 same-length c = c .before .loop .inv .1
 
 returns : tie.Need-returns Inv-loop μ-loop
-returns c = multiplied-end complex _ _ _ _ _ _ _ _ _ _ _ (counted (c .before .before .before .before .before .before .args .vb) _ _ (c .before .before .before .rows .ensures) (c .before .before .cols .ensures)) (c .before .loop .inv .0) (omega arith) (c .before .loop .inv .2)
+returns c = multiplied-end complex _ _ _ _ _ _ _ _ _ _ _ (c .before .before .elements .ensures) (c .before .loop .inv .0) (c .loop-test .left) (c .before .loop .inv .2)
 
 pub multiply-spec : {M : Type 1} → statement M
 multiply-spec =
@@ -60,9 +53,7 @@ multiply-spec =
     (tie.spec
     Inv-loop
     μ-loop
-    rows-requires
-    cols-requires
-    mul-total
+    elements-requires
     loop-holds
     turn-of-requires
     line-of-requires

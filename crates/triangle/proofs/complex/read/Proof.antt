@@ -2,7 +2,7 @@ use denote.Ref.{now}
 use native.Mathlib.Omega.{arith}
 use borrow.Author.Needs.{needs}
 use Rattle.number.specs.Kind.{complex}
-use Rattle.triangle.proofs.Places.{read-conj, read-plain, op-shown, op-inside}
+use Rattle.order.proofs.Places.{read-conj, read-plain, op-shown, op-inside}
 use Rattle.triangle.proofs.complex.read.Statement.{statement}
 use Rattle.triangle.proofs.complex.read.Tie as tie
 

@@ -5,7 +5,7 @@ use Rattle.slab.specs.Update.{rows as rowsOf, everywhere}
 use Rattle.number.specs.Kind.{complex}
 use borrow.Author.Needs.{needs}
 use lib.ListN.{length}
-use Rattle.triangle.proofs.Places.{row-in}
+use Rattle.order.proofs.Places.{row-in}
 use native.Mathlib.Omega.{arith}
 use Rattle.triangle.proofs.complex.scale.Statement.{statement}
 use Rattle.triangle.proofs.complex.scale.Tie as tie

@@ -2,7 +2,7 @@ use mathlib.Core.Path.{ap, _≡_, refl, _∙_}
 use Prim.Native.Nat.{ℕ, _/_, _≤_, _-_}
 use Rattle.slab.proofs.LoopLaws.{row-next, row-last}
 use Rattle.slab.specs.Update.{row as rowOf, everywhere}
-use Rattle.triangle.proofs.Places.{in-row}
+use Rattle.order.proofs.Places.{in-row}
 use Rattle.number.specs.Kind.{complex}
 use borrow.Author.Needs.{needs}
 use lib.ListN.{length}

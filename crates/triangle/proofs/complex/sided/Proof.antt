@@ -1,7 +1,7 @@
 use mathlib.Core.Path.{ap}
 use Prim.Native.Nat.{ℕ, _/_}
 use Rattle.number.specs.Kind.{complex}
-use Rattle.triangle.proofs.Kernels.{sided-kept, scaled-solve}
+use Rattle.order.proofs.Kernels.{sided-kept, scaled-solve}
 use borrow.Author.Needs.{needs}
 use Rattle.triangle.proofs.complex.sided.Statement.{statement}
 use Rattle.triangle.proofs.complex.sided.Tie as tie

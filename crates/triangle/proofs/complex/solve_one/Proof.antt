@@ -1,52 +1,42 @@
-use mathlib.Core.Path.{_∙_, ap}
-use Rattle.triangle.specs.Ready.{timesIf}
-use Rattle.triangle.proofs.Places.{next-unknown, next-pivot, next-range}
-use Rattle.blas.proofs.SubstitutionLaws.{solve-one-is}
 use Rattle.number.specs.Kind.{complex}
+use Rattle.order.proofs.Places.{in-a, in-b, some-of-line}
+use Rattle.order.proofs.Solves.{solve-one-is}
 use borrow.Author.Needs.{needs}
 use Rattle.triangle.proofs.complex.solve_one.Statement.{statement}
 use Rattle.triangle.proofs.complex.solve_one.Tie as tie
 
-last-first-requires : tie.Need-last-first-requires
-last-first-requires c κs = search needs
-
-order-of-requires : tie.Need-order-of-requires
-order-of-requires c κs = search needs
-
-in-order-requires : tie.Need-in-order-requires
-in-order-requires c κs = search needs
+solved-after-requires : tie.Need-solved-after-requires
+solved-after-requires c κs = search needs
 
 least-solved-requires : tie.Need-least-solved-requires
 least-solved-requires c κs = search needs
 
 unknown-requires : tie.Need-unknown-requires
-unknown-requires c κs = next-unknown _ _ _ _ _ (c .before .before .before .before .before .before .before .pre .sided) _ _ _ _ (c .before .before .before .before .last-first .result) (c .before .before .before .before .before .before .before .pre .unknown) (c .before .before .before .before .before .before .before .pre .line) (c .before .before .before .order-of .ensures) (c .before .before .in-order .ensures)
+unknown-requires c κs = in-b _ _ _ _ _ (c .before .before .before .before .before .pre .sided) _ _ (c .before .before .solved-after .ensures .1) (c .before .before .before .before .before .pre .line)
 
 times-if-requires : tie.Need-times-if-requires
 times-if-requires c κs = search needs
 
 reduce-requires : tie.Need-reduce-requires
-reduce-requires c κs = next-range _ _ _ _ _ (c .before .before .before .before .before .before .before .before .before .before .pre .sided) _ _ _ _ (c .before .before .before .before .before .before .before .last-first .result) (c .before .before .before .before .before .before .before .before .before .before .pre .unknown) (c .before .before .before .before .before .before .before .before .before .before .pre .line) (c .before .before .before .before .before .before .order-of .ensures) (c .before .before .before .before .before .in-order .ensures) _ (c .before .before .before .before .least-solved .ensures)
+reduce-requires c κs = some-of-line _ _ _ _ _ (c .before .before .before .before .before .before .before .before .pre .sided) _ _ (c .before .before .before .before .before .solved-after .ensures .1) (c .before .before .before .before .before .before .before .before .pre .line) _ _ (c .before .before .before .before .least-solved .ensures .1)
 
 by-pivot-requires : tie.Need-by-pivot-requires
-by-pivot-requires c κs = next-pivot _ _ _ _ _ (c .before .before .before .before .before .before .before .before .before .before .before .pre .sided) _ _ _ _ (c .before .before .before .before .before .before .before .before .last-first .result) (c .before .before .before .before .before .before .before .before .before .before .before .pre .unknown) (c .before .before .before .before .before .before .before .before .before .before .before .pre .line) (c .before .before .before .before .before .before .before .order-of .ensures) (c .before .before .before .before .before .before .in-order .ensures)
+by-pivot-requires c κs = in-a _ _ _ _ _ (c .before .before .before .before .before .before .before .before .before .pre .sided) _ _ (c .before .before .before .before .before .before .solved-after .ensures .1) (c .before .before .before .before .before .before .solved-after .ensures .1)
 
 replace-requires : tie.Need-replace-requires
-replace-requires c κs = next-unknown _ _ _ _ _ (c .before .before .before .before .before .before .before .before .before .before .before .before .before .pre .sided) _ _ _ _ (c .before .before .before .before .before .before .before .before .before .before .last-first .result) (c .before .before .before .before .before .before .before .before .before .before .before .before .before .pre .unknown) (c .before .before .before .before .before .before .before .before .before .before .before .before .before .pre .line) (c .before .before .before .before .before .before .before .before .before .order-of .ensures) (c .before .before .before .before .before .before .before .before .in-order .ensures)
+replace-requires c κs = in-b _ _ _ _ _ (c .before .before .before .before .before .before .before .before .before .before .before .pre .sided) _ _ (c .before .before .before .before .before .before .before .before .solved-after .ensures .1) (c .before .before .before .before .before .before .before .before .before .before .before .pre .line)
 
 same-length : tie.Need-same-length
 same-length c = search needs
 
 returns : tie.Need-returns
-returns c = solve-one-is complex _ _ _ _ _ _ _ _ _ _ _ _ (c .before .before .before .before .before .before .before .before .before .before .before .before .before .last-first .result) _ _ _ _ _ (c .before .before .before .before .before .before .before .before .before .before .before .before .before .last-first .ensures) (c .before .before .before .before .before .before .before .before .before .before .before .before .order-of .ensures) (c .before .before .before .before .before .before .before .before .before .before .before .in-order .ensures) (c .before .before .before .before .before .before .before .before .before .before .least-solved .ensures) (c .before .before .before .before .before .before .before .times-if .ensures ∙ ap (timesIf complex (c .before .before .before .before .before .before .before .before .before .before .before .before .before .before .before .before .args .times) (c .before .before .before .before .before .before .before .before .before .before .before .before .before .before .before .before .args .alpha)) (c .before .before .before .before .before .before .before .before .unknown .ensures)) (c .before .before .before .before .before .reduce .ensures) (c .before .before .before .before .by-pivot .ensures) (c .before .before .replace .ensures)
+returns c = solve-one-is complex _ _ _ _ _ _ _ _ _ _ _ _ _ _ _ _ _ (c .before .before .before .before .before .before .before .before .before .before .before .solved-after .ensures .0) (c .before .before .before .before .before .before .before .before .before .before .least-solved .ensures .0) (c .before .before .before .before .before .before .before .before .unknown .ensures) (c .before .before .before .before .before .before .before .times-if .ensures) (c .before .before .before .before .before .reduce .ensures) (c .before .before .before .before .by-pivot .ensures) (c .before .before .replace .ensures)
 
 pub solve-one-spec : {M : Type 1} → statement M
 solve-one-spec =
     tie.close
     (tie.spec
-    last-first-requires
-    order-of-requires
-    in-order-requires
+    solved-after-requires
     least-solved-requires
     unknown-requires
     times-if-requires

@@ -1,7 +1,7 @@
 use Rattle.number.specs.Kind.{complex}
 use Rattle.number.proofs.Instances.{complex-laws}
-use Rattle.triangle.proofs.InOrder.{complex-swaps}
-use Rattle.triangle.proofs.Kernels.{matrix-runs, trmm-refused, trmm-done}
+use Rattle.order.proofs.InOrder.{complex-swaps}
+use Rattle.order.proofs.Kernels.{matrix-runs, trmm-refused, trmm-done}
 use borrow.Author.Needs.{needs}
 use Rattle.triangle.proofs.complex.trmm.Statement.{statement}
 use Rattle.triangle.proofs.complex.trmm.Tie as tie

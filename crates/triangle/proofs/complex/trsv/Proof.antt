@@ -1,5 +1,5 @@
 use Rattle.number.specs.Kind.{complex}
-use Rattle.triangle.proofs.Kernels.{vector-passed, vector-runs, trsv-refused, trsv-done}
+use Rattle.order.proofs.Kernels.{vector-passed, vector-runs, trsv-refused, trsv-done}
 use borrow.Author.Needs.{needs}
 use Rattle.triangle.proofs.complex.trsv.Statement.{statement}
 use Rattle.triangle.proofs.complex.trsv.Tie as tie

@@ -1,4 +1,7 @@
-use Rattle.triangle.proofs.Places.{unknown-is, unknown-shown, unknown-inside}
+use Rattle.number.specs.Kind.{real32}
+use denote.Ref.{now}
+use Rattle.order.proofs.Parts.{unknown-put}
+use Rattle.order.proofs.Places.{unknown-shown, unknown-inside}
 use native.Mathlib.Omega.{arith}
 use borrow.Author.Needs.{needs}
 use Rattle.triangle.proofs.real32.replace.Statement.{statement}
@@ -17,7 +20,7 @@ same-length : tie.Need-same-length
 same-length c = search needs
 
 returns : tie.Need-returns
-returns c = let e = unknown-is _ _ _ _ _ (c .before .before .before .before .before .unknown-coord .ensures) _ (c .before .before .before .place .ensures) in cc
+returns c = unknown-put real32 (now (c .before .before .before .before .before .before .before .args .s)) _ _ _ _ _ (c .before .before .before .before .before .unknown-coord .ensures) _ (c .before .before .before .place .ensures) _ _ (c .before .before .put32 .ensures)
 
 pub replace-spec : {M : Type 1} → statement M
 replace-spec =

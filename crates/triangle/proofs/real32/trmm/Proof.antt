@@ -1,8 +1,8 @@
 use lib.Ieee.{binary32}
 use Rattle.number.specs.Kind.{real32}
 use Rattle.number.proofs.Instances.{real32-laws}
-use Rattle.triangle.proofs.InOrder.{real-swaps}
-use Rattle.triangle.proofs.Kernels.{matrix-runs, trmm-refused, trmm-done}
+use Rattle.order.proofs.InOrder.{real-swaps}
+use Rattle.order.proofs.Kernels.{matrix-runs, trmm-refused, trmm-done}
 use borrow.Author.Needs.{needs}
 use Rattle.triangle.proofs.real32.trmm.Statement.{statement}
 use Rattle.triangle.proofs.real32.trmm.Tie as tie

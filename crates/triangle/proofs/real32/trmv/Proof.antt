@@ -1,8 +1,8 @@
 use lib.Ieee.{binary32}
 use Rattle.number.specs.Kind.{real32}
 use Rattle.number.proofs.Instances.{real32-laws}
-use Rattle.triangle.proofs.InOrder.{real-swaps}
-use Rattle.triangle.proofs.Kernels.{vector-passed, vector-runs, trmv-refused, trmv-done}
+use Rattle.order.proofs.InOrder.{real-swaps}
+use Rattle.order.proofs.Kernels.{vector-passed, vector-runs, trmv-refused, trmv-done}
 use borrow.Author.Needs.{needs}
 use Rattle.triangle.proofs.real32.trmv.Statement.{statement}
 use Rattle.triangle.proofs.real32.trmv.Tie as tie

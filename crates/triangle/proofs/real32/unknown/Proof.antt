@@ -1,4 +1,7 @@
-use Rattle.triangle.proofs.Places.{unknown-is, unknown-shown, unknown-inside}
+use Rattle.number.specs.Kind.{real32}
+use denote.Ref.{now}
+use Rattle.order.proofs.Parts.{unknown-read}
+use Rattle.order.proofs.Places.{unknown-shown, unknown-inside}
 use native.Mathlib.Omega.{arith}
 use borrow.Author.Needs.{needs}
 use Rattle.triangle.proofs.real32.unknown.Statement.{statement}
@@ -14,7 +17,7 @@ get32-requires : tie.Need-get32-requires
 get32-requires c κs = omega (arith, unknown-inside _ _ _ _ _ (c .before .before .before .pre) _ (c .before .unknown-coord .ensures), c .place .ensures)
 
 returns : tie.Need-returns
-returns c = let e = unknown-is _ _ _ _ _ (c .before .before .unknown-coord .ensures) _ (c .before .place .ensures) in cc
+returns c = unknown-read real32 (now (c .before .before .before .before .args .s)) _ _ _ _ _ (c .before .before .unknown-coord .ensures) _ (c .before .place .ensures) _ (c .get32 .ensures)
 
 pub unknown-spec : {M : Type 1} → statement M
 unknown-spec = tie.close (tie.spec unknown-coord-requires place-requires get32-requires returns)

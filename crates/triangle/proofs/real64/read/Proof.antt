@@ -1,5 +1,5 @@
 use denote.Ref.{now}
-use Rattle.triangle.proofs.Places.{op-real, op-shown, op-inside}
+use Rattle.order.proofs.Places.{op-real, op-shown, op-inside}
 use native.Mathlib.Omega.{arith}
 use mathlib.Core.Path.{_∙_}
 use lib.Ieee.{binary64}

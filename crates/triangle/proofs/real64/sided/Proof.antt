@@ -1,5 +1,5 @@
 use Rattle.number.specs.Kind.{real64}
-use Rattle.triangle.proofs.Kernels.{sided-kept, scaled-solve}
+use Rattle.order.proofs.Kernels.{sided-kept, scaled-solve}
 use borrow.Author.Needs.{needs}
 use Rattle.triangle.proofs.real64.sided.Statement.{statement}
 use Rattle.triangle.proofs.real64.sided.Tie as tie

@@ -1,8 +1,8 @@
 use lib.Ieee.{binary64}
 use Rattle.number.specs.Kind.{real64}
 use Rattle.number.proofs.Instances.{real64-laws}
-use Rattle.triangle.proofs.InOrder.{real-swaps}
-use Rattle.triangle.proofs.Kernels.{matrix-runs, trmm-refused, trmm-done}
+use Rattle.order.proofs.InOrder.{real-swaps}
+use Rattle.order.proofs.Kernels.{matrix-runs, trmm-refused, trmm-done}
 use borrow.Author.Needs.{needs}
 use Rattle.triangle.proofs.real64.trmm.Statement.{statement}
 use Rattle.triangle.proofs.real64.trmm.Tie as tie

@@ -1,8 +1,8 @@
 use lib.Ieee.{binary64}
 use Rattle.number.specs.Kind.{real64}
 use Rattle.number.proofs.Instances.{real64-laws}
-use Rattle.triangle.proofs.InOrder.{real-swaps}
-use Rattle.triangle.proofs.Kernels.{vector-passed, vector-runs, trmv-refused, trmv-done}
+use Rattle.order.proofs.InOrder.{real-swaps}
+use Rattle.order.proofs.Kernels.{vector-passed, vector-runs, trmv-refused, trmv-done}
 use borrow.Author.Needs.{needs}
 use Rattle.triangle.proofs.real64.trmv.Statement.{statement}
 use Rattle.triangle.proofs.real64.trmv.Tie as tie

@@ -1,0 +1,28 @@
+use Rattle.order.specs.Ready.{opCoord}
+use borrow.Author.Needs.{needs}
+use Rattle.order.proofs.op_coord.Statement.{statement}
+use Rattle.order.proofs.op_coord.Tie as tie
+
+enum-told : tie.Need-enum-told
+enum-told c = search needs
+
+enum-told-2 : tie.Need-enum-told-2
+enum-told-2 c = search needs
+
+enum-told-3 : tie.Need-enum-told-3
+enum-told-3 c = search needs
+
+returns : tie.Need-returns
+unfolding opCoord
+returns c = rw (c .enum-told .given .1)
+
+returns-2 : tie.Need-returns-2
+unfolding opCoord
+returns-2 c = rw (c .enum-told2 .given .1)
+
+returns-3 : tie.Need-returns-3
+unfolding opCoord
+returns-3 c = rw (c .enum-told3 .given .1)
+
+pub op-coord-spec : {M : Type 1} → statement M
+op-coord-spec = tie.close (tie.spec enum-told enum-told-2 enum-told-3 returns returns-2 returns-3)

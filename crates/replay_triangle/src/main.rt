@@ -1,0 +1,60 @@
+// Replays the list of triangular routines: trmv, trsv, trmm and trsm, for each kind.
+mod complex;
+mod real32;
+mod real64;
+
+fn main() {
+    let path = b"triangle.bin";
+    let fd = os::open_read(path);
+    if fd < 0 {
+        os::fail(path);
+        return;
+    }
+    let mut calls = [0u64; 64];
+    let mut agreed = [0u64; 64];
+    let records = list::records(fd);
+    replay(fd, records, &mut calls, &mut agreed);
+    libc::close(fd);
+    list::report(records, &calls, &agreed);
+}
+
+fn replay(fd: i32, records: u64, calls: &mut [u64], agreed: &mut [u64]) {
+    let mut left = records;
+    while left > 0 && replay_one(fd, calls, agreed) {
+        left -= 1;
+    }
+}
+
+// Replays the next record, and answers whether there was one.
+fn replay_one(fd: i32, calls: &mut [u64], agreed: &mut [u64]) -> bool {
+    let mut space = io::buffer();
+    let n = list::next(fd, &mut space);
+    if n == 0 {
+        return false;
+    }
+    judge(&space[..n], calls, agreed);
+    true
+}
+
+fn judge(body: &[u8], calls: &mut [u64], agreed: &mut [u64]) {
+    list::count(body, agrees(body), calls, agreed);
+}
+
+// A record of these routines has two views.
+fn agrees(body: &[u8]) -> bool {
+    if list::whole(body) {
+        if list::target(body) == 1 {
+            return agrees_in_kind(body);
+        }
+    }
+    false
+}
+
+fn agrees_in_kind(body: &[u8]) -> bool {
+    match list::kind(body) {
+        0 => real64::agrees(body),
+        1 => real32::agrees(body),
+        2 => complex::agrees(body),
+        _ => false,
+    }
+}

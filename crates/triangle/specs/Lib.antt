@@ -1,3 +1,0 @@
--- What the triangular engine's contracts cite, over any number kind.
-pub mod Ready
-pub mod Multiply
