@@ -35,8 +35,11 @@ $(ARCHIVE): crates.txt $(shell find crates -name '*.rt' -o -name '*.antt') | nee
 	@rt staticlib capi > target/archive.log 2>&1 || { tail -n 20 target/archive.log; echo "not proved; target/archive.log has the whole report" >&2; exit 1; }
 	@touch $(ARCHIVE)
 
+# Under the compiler's checks of addresses and undefined behaviour, where it has them.
+SANITIZE = $(shell echo 'int main(void) { return 0; }' | $(CC) -x c -fsanitize=address,undefined -o /dev/null - 2> /dev/null && echo -fsanitize=address,undefined)
+
 c-test: archive need-cc
-	$(CC) -std=c11 -O1 -Wall -Wextra -Iinclude -o target/c-test tests/c/*.c $(ARCHIVE) -lm
+	$(CC) -std=c11 -O1 -Wall -Wextra $(SANITIZE) -Iinclude -o target/c-test tests/c/*.c $(ARCHIVE) -lm
 	target/c-test
 
 rust-test: archive need-cargo

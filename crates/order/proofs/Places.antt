@@ -14,7 +14,7 @@ use Rattle.view.specs.declared.Trans.the-variants.{NoTrans, Trans as Transposed
 use Rattle.view.specs.declared.Side.{Side}
 use Rattle.view.specs.declared.Side.the-variants.{Left, Right}
 use Rattle.view.specs.Checks.{orderOf}
-use Rattle.view.specs.Place.{index}
+use Rattle.view.specs.Place.{index, isConj}
 use Rattle.view.specs.PlaceLaws.{fits→index-lt}
 use Rattle.view.specs.Refusals.{limit}
 use Rattle.view.specs.Steps.{Accepted, Shown}
@@ -22,7 +22,7 @@ use Rattle.slab.specs.Elem.{elem}
 use Rattle.blas.specs.Matrix.{op}
 use Rattle.blas.specs.Substitution.{unknownAt, turnOf, lineOf}
 use Rattle.blas.proofs.SubstitutionLaws.{turn-lt, factor-pos, quotient-lt}
-use Rattle.order.specs.Ready.{isConj, opCoord, unknownCoord, linesOf, InSquare, InB, Sided, SidedAt, SidedRange, Pivots}
+use Rattle.order.specs.Ready.{opCoord, unknownCoord, linesOf, InSquare, InB, Sided, SidedAt, SidedRange, Pivots}
 
 -- ---- sizes
 

@@ -21,12 +21,6 @@ opCoord NoTrans i j = coord i j
 opCoord Transposed i j = coord j i
 opCoord ConjTrans i j = coord j i
 
--- whether it is conjugated
-abbrev pub isConj : Trans → Bool
-isConj NoTrans = false
-isConj Transposed = false
-isConj ConjTrans = true
-
 -- where unknown p of line l is in B
 unfoldable pub unknownCoord : Side → ℕ → ℕ → Coord
 unknownCoord Left p l = coord p l

@@ -10,7 +10,7 @@ ghost use Rattle.view.specs.Refusals.{limit};
 ghost use Rattle.blas.specs.Triangular as triangular;
 ghost use Rattle.blas.specs.Substitution as substitution;
 ghost use Rattle.order.specs.Multiply.{goesInto};
-ghost use Rattle.order.specs.Ready.{isConj, opCoord, unknownCoord};
+ghost use Rattle.order.specs.Ready.{opCoord, unknownCoord};
 ghost use Rattle.order.specs.Reach as reach;
 use view::Answer;
 use view::Coord;
@@ -232,17 +232,6 @@ pub fn op_coord(t: Trans, i: usize, j: usize) -> Coord
         Trans::NoTrans => Coord { row: i, col: j },
         Trans::Trans => Coord { row: j, col: i },
         Trans::ConjTrans => Coord { row: j, col: i },
-    }
-}
-
-// Whether it is conjugated.
-pub fn conjugated(t: Trans) -> bool
-    ensures { λ r. ⌜ r ≡ isConj t ⌝ }
-{
-    match t {
-        Trans::NoTrans => false,
-        Trans::Trans => false,
-        Trans::ConjTrans => true,
     }
 }
 

@@ -19,7 +19,6 @@ ghost use Rattle.order.specs.Multiply as multiply;
 ghost use Rattle.order.specs.Ready.{timesIf, InSquare, InB, Sided, SidedAt, SidedFirst, SidedRange, Pivots};
 ghost use Rattle.order.specs.Reach.{reduced, firstZero};
 use number::Complex;
-use order::conjugated;
 use order::elements;
 use order::goes_into;
 use order::least_solved;
@@ -47,6 +46,7 @@ use view::check_trsm;
 use view::check_trsv;
 use view::cols;
 use view::column;
+use view::conjugates;
 use view::passed;
 use view::place;
 use view::rows;
@@ -58,7 +58,7 @@ fn read(t: Trans, s: &[f64], v: View, i: usize, j: usize) -> Complex
 {
     let at = op_coord(t, i, j);
     let x = get_complex(s, place(v, at.row, at.col));
-    if conjugated(t) { x.conj() } else { x }
+    if conjugates(t) { x.conj() } else { x }
 }
 
 // Unknown p of line l.

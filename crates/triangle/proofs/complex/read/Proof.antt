@@ -15,17 +15,17 @@ place-requires c κs = op-shown _ _ _ _ (c .before .before .pre) _ _ (c .op-coor
 get-complex-requires : tie.Need-get-complex-requires
 get-complex-requires c κs = omega (arith, op-inside _ _ _ _ (c .before .before .before .pre) _ _ (c .before .op-coord .ensures), c .place .ensures)
 
-conjugated-requires : tie.Need-conjugated-requires
-conjugated-requires c κs = search needs
+conjugates-requires : tie.Need-conjugates-requires
+conjugates-requires c κs = search needs
 
 conj-requires : tie.Need-conj-requires
 conj-requires c κs = search needs
 
 returns : tie.Need-returns
-returns c = read-conj complex (now (c .before .before .before .before .before .before .before .args .s)) _ _ _ _ _ (c .before .before .before .before .before .op-coord .ensures) _ (c .before .before .before .before .place .ensures) _ _ _ (c .before .before .conjugated .ensures) (c .before .before .before .get-complex .ensures) (c .before .if1 .taken) (c .conj .ensures)
+returns c = read-conj complex (now (c .before .before .before .before .before .before .before .args .s)) _ _ _ _ _ (c .before .before .before .before .before .op-coord .ensures) _ (c .before .before .before .before .place .ensures) _ _ _ (c .before .before .conjugates .ensures) (c .before .before .before .get-complex .ensures) (c .before .if1 .taken) (c .conj .ensures)
 
 returns-2 : tie.Need-returns-2
-returns-2 c = read-plain complex (now (c .before .before .before .before .before .before .args .s)) _ _ _ _ _ (c .before .before .before .before .op-coord .ensures) _ (c .before .before .before .place .ensures) _ _ (c .before .conjugated .ensures) (c .before .before .get-complex .ensures) (c .if1 .left)
+returns-2 c = read-plain complex (now (c .before .before .before .before .before .before .args .s)) _ _ _ _ _ (c .before .before .before .before .op-coord .ensures) _ (c .before .before .before .place .ensures) _ _ (c .before .conjugates .ensures) (c .before .before .get-complex .ensures) (c .if1 .left)
 
 pub read-spec : {M : Type 1} → statement M
 read-spec =
@@ -34,7 +34,7 @@ read-spec =
     op-coord-requires
     place-requires
     get-complex-requires
-    conjugated-requires
+    conjugates-requires
     conj-requires
     returns
     returns-2)
