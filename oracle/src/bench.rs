@@ -16,26 +16,36 @@ const SAMPLES: usize = 15;
 /// A sample runs at least this long, in nanoseconds.
 const SAMPLE: f64 = 100_000.0;
 
-/// Prints a line for each routine, kind and size: nanoseconds for a call, and the ratio.
+/// Prints a row for each routine and kind: the Rust's nanoseconds for a call divided by ours at each size, then both at the
+/// largest.
 pub fn print() {
-    println!("medians of {SAMPLES} samples, in nanoseconds a call; square matrices by rows, every flag 0");
-    println!("routine kind      n       Rust       ours  ours/Rust");
+    println!(
+        "Rust's time / ours: medians of {SAMPLES} samples; square matrices by rows, every flag 0; last the nanoseconds of the largest call"
+    );
+    println!();
+    let sizes: String = SIZES.iter().map(|n| format!(" n = {n} |")).collect();
+    println!("| routine | kind |{sizes} Rust | ours |");
+    println!("|---|---|{}", "---|".repeat(SIZES.len() + 2));
     for routine in Routine::ALL {
         for kind in Kind::ALL {
-            for n in SIZES {
-                let call = call(routine, kind, n);
-                let (theirs, ours) = match kind {
-                    Kind::F64 => time::<f64, f64>(&call, f64::from_bits, capi::call_f64),
-                    Kind::F32 => time::<f32, f32>(&call, |cell| f32::from_bits(cell as u32), capi::call_f32),
-                    Kind::Complex => time::<Complex, f64>(&call, f64::from_bits, capi::call_complex),
-                };
-                let right = match ours {
-                    Some(ours) => format!("{ours:10.1} {:10.2}", ours / theirs),
-                    None => format!("{:>10}", "-"),
-                };
-                println!("{:7} {:8} {n:2} {theirs:10.1} {right}", routine.name(), kind.name());
-            }
+            let times: Vec<(f64, Option<f64>)> = SIZES.iter().map(|&n| times(&call(routine, kind, n))).collect();
+            let cells: String = times.iter().map(|&(theirs, ours)| ratio(theirs, ours)).collect();
+            let (theirs, ours) = times[SIZES.len() - 1];
+            let ours = ours.map_or("-".to_string(), |ours| format!("{ours:.0}"));
+            println!("| {} | {} |{cells} {theirs:.0} | {ours} |", routine.name(), kind.name());
         }
+    }
+}
+
+fn ratio(theirs: f64, ours: Option<f64>) -> String {
+    ours.map_or(" - |".to_string(), |ours| format!(" {:.2} |", theirs / ours))
+}
+
+fn times(call: &Call) -> (f64, Option<f64>) {
+    match call.kind {
+        Kind::F64 => time::<f64, f64>(call, f64::from_bits, capi::call_f64),
+        Kind::F32 => time::<f32, f32>(call, |cell| f32::from_bits(cell as u32), capi::call_f32),
+        Kind::Complex => time::<Complex, f64>(call, f64::from_bits, capi::call_complex),
     }
 }
 
