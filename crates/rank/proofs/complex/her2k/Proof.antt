@@ -1,9 +1,9 @@
 use mathlib.Core.Path.{ap, _∙_}
+use borrow.Author.Needs.{needs}
 use Rattle.number.specs.Kind.{complex}
 use Rattle.number.specs.Scaling.{scaleByComplex}
 use Rattle.number.proofs.ScalingLaws.{scale-real}
 use Rattle.rank.proofs.Kernels.{her2k-runs, her2k-done, her2k-refused}
-use borrow.Author.Needs.{needs}
 use Rattle.rank.proofs.complex.her2k.Statement.{statement}
 use Rattle.rank.proofs.complex.her2k.Tie as tie
 
@@ -13,20 +13,20 @@ check-her2k-requires c κs = search needs
 passed-requires : tie.Need-passed-requires
 passed-requires c κs = search needs
 
-judge-real-requires : tie.Need-judge-real-requires
-judge-real-requires c κs = search needs
-
 her2k-plan-requires : tie.Need-her2k-plan-requires
 her2k-plan-requires c κs = search needs
 
-run-requires : tie.Need-run-requires
-run-requires c κs = her2k-runs _ _ _ _ _ _ _ _ _ _ (c .before .before .before .before .before .check-her2k .ensures) (c .before .before .before .before .passed .ensures) (c .before .before .before .if1 .taken) _ (c .before .her2k-plan .ensures)
+judge-real-requires : tie.Need-judge-real-requires
+judge-real-requires c κs = search needs
+
+her2k-rows-requires : tie.Need-her2k-rows-requires
+her2k-rows-requires c κs = her2k-runs _ _ _ _ _ _ _ _ _ _ (c .before .before .before .before .before .check-her2k .ensures) (c .before .before .before .before .passed .ensures) (c .before .before .before .if1 .taken) _ (c .before .before .her2k-plan .ensures)
 
 same-length : tie.Need-same-length
 same-length c = search needs
 
 returns : tie.Need-returns
-returns c = her2k-done complex _ _ _ _ _ _ _ _ _ (c .before .before .before .before .before .before .before .before .check-her2k .ensures) (c .before .before .before .before .before .before .before .passed .ensures) (c .before .before .before .before .before .before .if1 .taken) _ _ _ (ap scaleByComplex (c .before .before .before .before .before .judge-real .ensures) ∙ scale-real _) (c .before .before .before .before .her2k-plan .ensures) (c .before .before .run .ensures)
+returns c = her2k-done complex _ _ _ _ _ _ _ _ _ (c .before .before .before .before .before .before .before .before .check-her2k .ensures) (c .before .before .before .before .before .before .before .passed .ensures) (c .before .before .before .before .before .before .if1 .taken) _ _ _ (ap scaleByComplex (c .before .before .before .before .judge-real .ensures) ∙ scale-real _) (c .before .before .before .before .before .her2k-plan .ensures) (c .before .before .her2k-rows .ensures)
 
 returns-2 : tie.Need-returns-2
 returns-2 c = her2k-refused complex _ _ _ _ _ _ _ _ _ (c .before .before .check-her2k .ensures) (c .before .passed .ensures) (c .if1 .left)
@@ -37,9 +37,9 @@ her2k-spec =
     (tie.spec
     check-her2k-requires
     passed-requires
-    judge-real-requires
     her2k-plan-requires
-    run-requires
+    judge-real-requires
+    her2k-rows-requires
     same-length
     returns
     returns-2)
