@@ -131,7 +131,8 @@ fn her2_row(
     ensures { λ _. ⌜ now (a .exit) ≡ row complex va (inTriangle uplo) (Her2.her2Change complex alpha (elem complex (now (x .entry)) vx) (elem complex (now (y .entry)) vy)) i (va .cols) (now (a .entry)) ⌝ }
 {
     let w = alpha.mul(at(x, vx, i, 0));
-    let w2 = alpha.conj().mul(at(y, vy, i, 0));
+    let conjugate = alpha.conj();
+    let w2 = conjugate.mul(at(y, vy, i, 0));
     let end = end_col(uplo, i, cols(va));
     let mut j = first_col(uplo, i);
     while j < end {

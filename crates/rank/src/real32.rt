@@ -131,7 +131,8 @@ fn her2_row(
     ensures { λ _. ⌜ now (a .exit) ≡ row real32 va (inTriangle uplo) (Her2.her2Change real32 (alpha .0) (elem real32 (now (x .entry)) vx) (elem real32 (now (y .entry)) vy)) i (va .cols) (now (a .entry)) ⌝ }
 {
     let w = alpha.mul(at(x, vx, i, 0));
-    let w2 = alpha.conj().mul(at(y, vy, i, 0));
+    let conjugate = alpha.conj();
+    let w2 = conjugate.mul(at(y, vy, i, 0));
     let end = end_col(uplo, i, cols(va));
     let mut j = first_col(uplo, i);
     while j < end {
