@@ -5,10 +5,10 @@ use Rattle.rank.proofs.complex.her.Statement.{statement}
 use Rattle.rank.proofs.complex.her.Tie as tie
 
 check-her-requires : tie.Need-check-her-requires
-check-her-requires c κs = search needs
+check-her-requires c κs = tt
 
 passed-requires : tie.Need-passed-requires
-passed-requires c κs = search needs
+passed-requires c κs = tt
 
 column-requires : tie.Need-column-requires
 column-requires c κs = her-vector _ _ _ _ _ _ (c .before .before .check-her .ensures) (c .before .passed .ensures) (c .if1 .taken)

@@ -5,10 +5,10 @@ use Rattle.rank.proofs.complex.her2.Statement.{statement}
 use Rattle.rank.proofs.complex.her2.Tie as tie
 
 check-her2-requires : tie.Need-check-her2-requires
-check-her2-requires c κs = search needs
+check-her2-requires c κs = tt
 
 passed-requires : tie.Need-passed-requires
-passed-requires c κs = search needs
+passed-requires c κs = tt
 
 column-requires : tie.Need-column-requires
 column-requires c κs = her2-vectors _ _ _ _ _ _ _ _ (c .before .before .check-her2 .ensures) (c .before .passed .ensures) (c .if1 .taken) .0

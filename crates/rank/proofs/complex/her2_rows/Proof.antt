@@ -2,7 +2,6 @@ use Prim.Native.Nat.{ℕ, _≤_, _-_, _/_}
 use mathlib.Core.Path.{_≡_, refl, ap, _∙_}
 use native.Mathlib.Omega.{arith}
 use lib.ListN.{length}
-use borrow.Author.Needs.{needs}
 use Rattle.number.specs.Kind.{complex}
 use Rattle.view.specs.Triangle.{inTriangle}
 use Rattle.slab.specs.Elem.{elem}
@@ -20,7 +19,7 @@ abbrev μ-loop : tie.MeasureT-loop
 μ-loop uplo alpha x vx y vy a₀ va m i₀ a i = m - i
 
 rows-requires : tie.Need-rows-requires Inv-loop μ-loop
-rows-requires c κs = search needs
+rows-requires c κs = tt
 
 loop-holds : tie.Need-loop-holds Inv-loop μ-loop
 unfolding rowsOf

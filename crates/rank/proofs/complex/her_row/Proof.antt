@@ -3,7 +3,6 @@ use mathlib.Core.Path.{_≡_, refl, ap, _∙_}
 use native.Mathlib.Omega.{arith}
 use lib.ListN.{length}
 use denote.Ref.{now}
-use borrow.Author.Needs.{needs}
 use Rattle.number.specs.Kind.{complex}
 use Rattle.slab.specs.Elem.{elem}
 use Rattle.blas.specs.Her.{herChange}
@@ -24,16 +23,16 @@ at-requires : tie.Need-at-requires Inv-loop μ-loop
 at-requires c κs = column-shows _ _ _ (c .before .before .pre .0 .x) _ (c .before .before .pre .1)
 
 scale-real-requires : tie.Need-scale-real-requires Inv-loop μ-loop
-scale-real-requires c κs = search needs
+scale-real-requires c κs = tt
 
 cols-requires : tie.Need-cols-requires Inv-loop μ-loop
-cols-requires c κs = search needs
+cols-requires c κs = tt
 
 end-col-requires : tie.Need-end-col-requires Inv-loop μ-loop
 end-col-requires c κs = row-lt _ _ (c .before .before .before .before .before .pre .0 .target) _ (c .before .before .before .before .before .pre .1) _ (c .cols .ensures)
 
 first-col-requires : tie.Need-first-col-requires Inv-loop μ-loop
-first-col-requires c κs = search needs
+first-col-requires c κs = tt
 
 loop-holds : tie.Need-loop-holds Inv-loop μ-loop
 loop-holds c = let p = c .before .before .before .before .before .before .before .args in (omega arith, begins _ _ (c .before .before .before .before .before .before .before .pre .0 .target) _ (c .before .before .before .before .before .before .before .pre .1) _ (c .before .before .cols .ensures) (p .uplo) _ _ (c .before .end-col .ensures) (c .first-col .ensures), refl, span-start complex _ _ _ _ _)

@@ -17,16 +17,16 @@ get-complex-requires : tie.Need-get-complex-requires
 get-complex-requires c κs = inside _ _ _ _ (c .before .before .before .before .before .pre .1) _ (c .before .place .ensures)
 
 scale-requires : tie.Need-scale-requires
-scale-requires c κs = search needs
+scale-requires c κs = tt
 
 pair-sum-requires : tie.Need-pair-sum-requires
 pair-sum-requires c κs = search needs
 
 mul-requires : tie.Need-mul-requires
-mul-requires c κs = search needs
+mul-requires c κs = tt
 
 add-requires : tie.Need-add-requires
-add-requires c κs = search needs
+add-requires c κs = tt
 
 put-complex-requires : tie.Need-put-complex-requires
 put-complex-requires c κs = inside _ _ _ _ (c .before .before .before .before .before .before .before .before .before .before .before .pre .1) _ (c .before .before .before .before .before .before .before .place .ensures)

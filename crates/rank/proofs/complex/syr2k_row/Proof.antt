@@ -3,7 +3,6 @@ use mathlib.Core.Path.{_≡_, refl, ap, _∙_}
 use native.Mathlib.Omega.{arith}
 use lib.ListN.{length}
 use denote.Ref.{now}
-use borrow.Author.Needs.{needs}
 use Rattle.number.specs.Kind.{complex}
 use Rattle.number.specs.Scaling.{scaleByComplex}
 use Rattle.rank.specs.Change.{syr2kChange}
@@ -19,13 +18,13 @@ abbrev μ-loop : tie.MeasureT-loop
 μ-loop alpha beta plan a b c₀ i end j₀ c j = end - j
 
 cols-requires : tie.Need-cols-requires Inv-loop μ-loop
-cols-requires c κs = search needs
+cols-requires c κs = tt
 
 end-col-requires : tie.Need-end-col-requires Inv-loop μ-loop
 end-col-requires c κs = row-lt _ _ (c .before .before .before .before .pre .0 .target) _ (c .before .before .before .before .pre .1) _ (c .cols .ensures)
 
 first-col-requires : tie.Need-first-col-requires Inv-loop μ-loop
-first-col-requires c κs = search needs
+first-col-requires c κs = tt
 
 loop-holds : tie.Need-loop-holds Inv-loop μ-loop
 loop-holds c = let p = c .before .before .before .before .before .before .args in (omega arith, begins _ _ (c .before .before .before .before .before .before .pre .0 .target) _ (c .before .before .before .before .before .before .pre .1) _ (c .before .before .cols .ensures) (p .plan .uplo) _ _ (c .before .end-col .ensures) (c .first-col .ensures), refl, span-start complex _ _ _ _ _)

@@ -1,4 +1,3 @@
-use borrow.Author.Needs.{needs}
 use Rattle.number.specs.Kind.{real32}
 use Rattle.rank.proofs.Inside.{left-a-shows, right-b-shows, left-b-shows, right-a-shows}
 use Rattle.rank.proofs.Laws.{more, twice}
@@ -12,7 +11,7 @@ read-requires-2 : tie.Need-read-requires-2
 read-requires-2 c κs = right-b-shows _ _ _ _ _ (c .before .before .before .pre .0) _ (c .before .before .before .pre .1)
 
 mul-requires : tie.Need-mul-requires
-mul-requires c κs = search needs
+mul-requires c κs = tt
 
 read-requires-3 : tie.Need-read-requires-3
 read-requires-3 c κs = left-b-shows _ _ _ _ _ (c .before .before .before .before .before .pre .0) _ (c .before .before .before .before .before .pre .1)
@@ -21,13 +20,13 @@ read-requires-4 : tie.Need-read-requires-4
 read-requires-4 c κs = right-a-shows _ _ _ _ _ (c .before .before .before .before .before .before .pre .0) _ (c .before .before .before .before .before .before .pre .1)
 
 mul-requires-2 : tie.Need-mul-requires-2
-mul-requires-2 c κs = search needs
+mul-requires-2 c κs = tt
 
 add-requires : tie.Need-add-requires
-add-requires c κs = search needs
+add-requires c κs = tt
 
 add-requires-2 : tie.Need-add-requires-2
-add-requires-2 c κs = search needs
+add-requires-2 c κs = tt
 
 returns : tie.Need-returns
 returns c = twice real32 _ _ _ _ _ _ _ _ _ (more real32 _ _ _ _ _ _ _ (c .before .before .before .before .before .before .before .read .ensures) (c .before .before .before .before .before .before .read2 .ensures) (c .before .before .before .before .before .mul .ensures) (c .before .add .ensures)) (c .before .before .before .before .read3 .ensures) (c .before .before .before .read4 .ensures) (c .before .before .mul2 .ensures) (c .add2 .ensures)

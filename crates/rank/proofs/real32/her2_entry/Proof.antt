@@ -20,19 +20,19 @@ read-requires : tie.Need-read-requires
 read-requires c κs = search needs
 
 mul-requires : tie.Need-mul-requires
-mul-requires c κs = search needs
+mul-requires c κs = tt
 
 read-requires-2 : tie.Need-read-requires-2
 read-requires-2 c κs = search needs
 
 mul-requires-2 : tie.Need-mul-requires-2
-mul-requires-2 c κs = search needs
+mul-requires-2 c κs = tt
 
 add-requires : tie.Need-add-requires
-add-requires c κs = search needs
+add-requires c κs = tt
 
 add-requires-2 : tie.Need-add-requires-2
-add-requires-2 c κs = search needs
+add-requires-2 c κs = tt
 
 put32-requires : tie.Need-put32-requires
 put32-requires c κs = inside _ _ _ _ (c .before .before .before .before .before .before .before .before .before .before .before .before .before .pre .2) _ (c .before .before .before .before .before .before .before .before .before .place .ensures)

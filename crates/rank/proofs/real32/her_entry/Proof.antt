@@ -20,10 +20,10 @@ read-requires : tie.Need-read-requires
 read-requires c κs = search needs
 
 mul-requires : tie.Need-mul-requires
-mul-requires c κs = search needs
+mul-requires c κs = tt
 
 add-requires : tie.Need-add-requires
-add-requires c κs = search needs
+add-requires c κs = tt
 
 put32-requires : tie.Need-put32-requires
 put32-requires c κs = inside _ _ _ _ (c .before .before .before .before .before .before .before .before .before .pre .1) _ (c .before .before .before .before .before .before .place .ensures)

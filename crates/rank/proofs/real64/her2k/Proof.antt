@@ -8,16 +8,16 @@ use Rattle.rank.proofs.real64.her2k.Statement.{statement}
 use Rattle.rank.proofs.real64.her2k.Tie as tie
 
 check-her2k-requires : tie.Need-check-her2k-requires
-check-her2k-requires c κs = search needs
+check-her2k-requires c κs = tt
 
 passed-requires : tie.Need-passed-requires
-passed-requires c κs = search needs
+passed-requires c κs = tt
 
 her2k-plan-requires : tie.Need-her2k-plan-requires
-her2k-plan-requires c κs = search needs
+her2k-plan-requires c κs = tt
 
 judge-requires : tie.Need-judge-requires
-judge-requires c κs = search needs
+judge-requires c κs = tt
 
 her2k-rows-requires : tie.Need-her2k-rows-requires
 her2k-rows-requires c κs = her2k-runs _ _ _ _ _ _ _ _ _ _ (c .before .before .before .before .before .check-her2k .ensures) (c .before .before .before .before .passed .ensures) (c .before .before .before .if1 .taken) _ (c .before .before .her2k-plan .ensures)

@@ -8,7 +8,7 @@ at-requires : tie.Need-at-requires
 at-requires c κs = search needs
 
 conj-requires : tie.Need-conj-requires
-conj-requires c κs = search needs
+conj-requires c κs = tt
 
 returns : tie.Need-returns
 returns c = rw (c .before .if1 .taken) (c .conj .ensures ∙ ap (real64 .conj) (c .before .before .at .ensures))
