@@ -3,14 +3,11 @@ use Prim.Native.Nat.{ℕ, _<_, _≤_, _^_}
 use mathlib.Core.Path.{_≡_, sym, subst}
 use native.Mathlib.Omega.{arith}
 use Rattle.view.specs.declared.View.{View}
-use Rattle.view.specs.declared.Trans.{Trans}
-use Rattle.view.specs.declared.Trans.the-variants.{NoTrans, Trans as Transposed, ConjTrans}
 use Rattle.view.specs.Place.{index}
 use Rattle.view.specs.PlaceLaws.{fits→index-lt}
 use Rattle.view.specs.Steps.{Shown}
-use Rattle.view.specs.Checks.{opRows, opCols}
 use Rattle.rank.specs.declared.plan.Plan.{Plan}
-use Rattle.rank.specs.Ready.{Shows, Readable, Factors, Operand, Entry, Ready, ReadyRow, ReadyAt}
+use Rattle.rank.specs.Ready.{Shows, Sized, One, Two, Paired, Entry}
 
 -- ---- an element of a matrix
 
@@ -21,68 +18,51 @@ module _ (v : View) (len i j : ℕ) (s : Shows v len i j) where
   pub inside : (k : ℕ) → k ≡ index v i j → k < len
   inside k e = subst (λ (n : ℕ). n < len) (sym e) (fits→index-lt v len (s .fits .fits) i j (s .row) (s .col))
 
--- ---- an element of op(A)
+pub sized-shows : (v : View) (len m n : ℕ) → Sized v len m n → (i j : ℕ) → i < m → j < n → Shows v len i j
+sized-shows v len m n s i j h g =
+    record { fits = s .fits; row = subst (λ (k : ℕ). i < k) (sym (s .rows)) h; col = subst (λ (k : ℕ). j < k) (sym (s .cols)) g }
 
-module _ (t : Trans) (v : View) (len i j : ℕ) (r : Readable t v len i j) where
-  pub plain-shows : t ≡ NoTrans → Shows v len i j
-  plain-shows e =
-      let q = subst (λ (u : Trans). Readable u v len i j) e r in
-      record { fits = q .fits; row = q .row; col = q .col }
-
-  pub transposed-shows : t ≡ Transposed → Shows v len j i
-  transposed-shows e =
-      let q = subst (λ (u : Trans). Readable u v len i j) e r in
-      record { fits = q .fits; row = q .col; col = q .row }
-
-  pub conjugated-shows : t ≡ ConjTrans → Shows v len j i
-  conjugated-shows e =
-      let q = subst (λ (u : Trans). Readable u v len i j) e r in
-      record { fits = q .fits; row = q .col; col = q .row }
+pub column-shows : (v : View) (len m : ℕ) → Sized v len m 1 → (i : ℕ) → i < m → Shows v len i 0
+column-shows v len m s i h = sized-shows v len m 1 s i 0 h (omega arith)
 
 -- ---- the factors of the two products at p
 
 module _ (plan : Plan) (la lb i j : ℕ) (e : Entry plan la lb i j) (p : ℕ) (h : p < plan .terms) where
-  factors : (va vb : View) (la lb : ℕ) → Operand plan va la → Operand plan vb lb → Factors (plan .left) va la (plan .right) vb lb p i j
-  factors va vb la lb a b =
-      record {
-        first = record {
-          fits = a .fits;
-          row = subst (λ (n : ℕ). i < n) (sym (a .left-rows)) (e .row);
-          col = subst (λ (n : ℕ). p < n) (sym (a .left-cols)) h;
-        };
-        second = record {
-          fits = b .fits;
-          row = subst (λ (n : ℕ). p < n) (sym (b .right-rows)) h;
-          col = subst (λ (n : ℕ). j < n) (sym (b .right-cols)) (e .col);
-        };
-      }
+  pub left-a-shows : Shows (plan .«left_a») la i p
+  left-a-shows = sized-shows _ _ _ _ (e .factors .left-a) i p (e .row) h
 
-  pub first-factors : Factors (plan .left) (plan .a) la (plan .right) (plan .b) lb p i j
-  first-factors = factors (plan .a) (plan .b) la lb (e .a) (e .b)
+  pub right-b-shows : Shows (plan .«right_b») lb p j
+  right-b-shows = sized-shows _ _ _ _ (e .factors .right-b) p j h (e .col)
 
-  pub second-factors : Factors (plan .left) (plan .b) lb (plan .right) (plan .a) la p i j
-  second-factors = factors (plan .b) (plan .a) lb la (e .b) (e .a)
+  pub left-b-shows : Shows (plan .«left_b») lb i p
+  left-b-shows = sized-shows _ _ _ _ (e .factors .left-b) i p (e .row) h
 
--- ---- an element of the target
+  pub right-a-shows : Shows (plan .«right_a») la p j
+  right-a-shows = sized-shows _ _ _ _ (e .factors .right-a) p j h (e .col)
 
-module _ (plan : Plan) (least la lb lc i j : ℕ) (r : ReadyAt plan least la lb lc i j) where
-  pub target-shows : Shows (plan .target) lc i j
-  target-shows = record { fits = r .ready .target; row = r .row; col = r .col }
+-- ---- an element of the target, whose slab keeps its length
 
-  pub target-entry : Entry plan la lb i j × (least ≤ plan .terms)
-  target-entry = (record { a = r .ready .a; b = r .ready .b; row = r .row; col = r .col }, r .ready .terms)
+module _ (x : View) (lx : ℕ) (a : View) (la la' : ℕ) (kept : la' ≡ la) (o : One x lx a la) where
+  pub one-kept : One x lx a la'
+  one-kept = subst (λ (k : ℕ). One x lx a k) (sym kept) o
 
--- ---- a loop over the target's rows and columns, whose slab keeps its length
+  pub one-shows : (i j : ℕ) → i < a .rows → j < a .rows → Shows x lx j 0 × Shows a la' i j
+  one-shows i j h g = (column-shows x lx (a .rows) (o .x) j g, sized-shows _ _ _ _ (one-kept .target) i j h g)
 
-module _ (plan : Plan) (least la lb lc lc' : ℕ) (kept : lc' ≡ lc) where
-  pub ready-row : Ready plan least la lb lc → (m i : ℕ) → m ≡ plan .target .rows → i < m → ReadyRow plan least la lb lc' i
-  ready-row r m i e h =
-      record { ready = subst (λ (k : ℕ). Ready plan least la lb k) (sym kept) r; row = subst (λ (k : ℕ). i < k) e h }
+module _ (x : View) (lx : ℕ) (y : View) (ly : ℕ) (a : View) (la la' : ℕ) (kept : la' ≡ la) (o : Two x lx y ly a la) where
+  pub two-kept : Two x lx y ly a la'
+  two-kept = subst (λ (k : ℕ). Two x lx y ly a k) (sym kept) o
 
-  pub ready-at : (i : ℕ) → ReadyRow plan least la lb lc i → (n j : ℕ) → n ≡ plan .target .cols → j < n → ReadyAt plan least la lb lc' i j
-  ready-at i r n j e h =
-      record {
-        ready = subst (λ (k : ℕ). Ready plan least la lb k) (sym kept) (r .ready);
-        row = r .row;
-        col = subst (λ (k : ℕ). j < k) e h;
-      }
+  pub two-shows : (i j : ℕ) → i < a .rows → j < a .rows → Shows x lx j 0 × Shows y ly j 0 × Shows a la' i j
+  two-shows i j h g =
+      (column-shows x lx (a .rows) (o .x) j g, column-shows y ly (a .rows) (o .y) j g, sized-shows _ _ _ _ (two-kept .target) i j h g)
+
+module _ (plan : Plan) (la lb lc lc' : ℕ) (kept : lc' ≡ lc) (o : Paired plan la lb lc) where
+  pub paired-kept : Paired plan la lb lc'
+  paired-kept = subst (λ (k : ℕ). Paired plan la lb k) (sym kept) o
+
+  pub paired-shows : (i j : ℕ) → i < plan .target .rows → j < plan .target .rows → Entry plan la lb i j × Shows (plan .target) lc' i j
+  paired-shows i j h g = (
+    record { factors = o .factors; row = h; col = subst (λ (k : ℕ). j < k) (sym (o .target .cols)) g },
+    sized-shows _ _ _ _ (paired-kept .target) i j h g,
+  )

@@ -1,40 +1,37 @@
--- What becomes of an element of the target, and that it is replaced by that, over any number kind.
+-- What a turn of the code makes of an element, over any number kind.
 use Prim.Native.Nat.{ℕ}
 use mathlib.Core.List.{List}
-use mathlib.Core.Bool.{Bool, true, false, cond}
-use mathlib.Core.Path.{_≡_, ap, sym, _∙_}
+use mathlib.Core.Path.{_≡_, ap, _∙_}
 use Rattle.number.specs.Kind.{Kind}
+use Rattle.view.specs.declared.View.{View}
 use Rattle.view.specs.Place.{index}
-use Rattle.view.specs.Triangle.{inTriangle}
-use Rattle.slab.specs.Update.{step}
-use Rattle.rank.specs.declared.plan.Plan.{Plan}
-use Rattle.rank.specs.Change.{Task, Her2, pairAt, change, changePut, changeStep}
+use Rattle.blas.specs.Matrix.{Matrix}
+use Rattle.blas.specs.Her.{herChange}
+use Rattle.blas.specs.Her2.{her2Change}
+use Rattle.rank.specs.Change.{replaced, addOne, addTwo}
 
 -- k is the element's place, `old` what stands there, `new` what becomes of it
-pub put-changed : (K : Kind) (task : Task K) (plan : Plan) (a b c after : List (K .Cell)) (i j k : ℕ) (old new : K .Elem)
-    → k ≡ index (plan .target) i j → old ≡ K .at c k → new ≡ change K task plan a b i j old → after ≡ K .put c k new
-    → after ≡ changePut K task plan a b i j c
-put-changed K task plan a b c after i j k old new placed read changed e =
+pub put-replaced : (K : Kind) (v : View) (i j : ℕ) (f : K .Elem → K .Elem) (c after : List (K .Cell)) (k : ℕ) (old new : K .Elem)
+    → k ≡ index v i j → old ≡ K .at c k → new ≡ f old → after ≡ K .put c k new → after ≡ replaced K v i j f c
+put-replaced K v i j f c after k old new placed read changed e =
     e
-    ∙ ap (K .put c k) (changed ∙ ap (change K task plan a b i j) read)
-    ∙ ap (λ (p : ℕ). K .put c p (change K task plan a b i j (K .at c p))) placed
+    ∙ ap (K .put c k) (changed ∙ ap f read)
+    ∙ ap (λ (p : ℕ). K .put c p (f (K .at c p))) placed
 
--- a sum, with two terms added one after the other
-pub two-added : (K : Kind) (sum first second f g part new : K .Elem)
-    → f ≡ first → g ≡ second → part ≡ K .add sum f → new ≡ K .add part g → new ≡ K .add (K .add sum first) second
-two-added K sum first second f g part new p q e h = h ∙ (λ i. K .add ((e ∙ (λ j. K .add sum (p j))) i) (q i))
+-- m, the product of x and y, is added to a sum
+pub more : (K : Kind) (sum x y m next ex ey : K .Elem) → x ≡ ex → y ≡ ey → m ≡ K .mul x y → next ≡ K .add sum m → next ≡ K .add sum (K .mul ex ey)
+more K sum x y m next ex ey px py pm pn = pn ∙ ap (K .add sum) (pm ∙ (λ t. K .mul (px t) (py t)))
 
--- her2 weighs by alpha and by its conjugate
-pub her2-changed : (K : Kind) (alpha conjugate : K .Elem) (plan : Plan) (a b : List (K .Cell)) (i j : ℕ) (old new : K .Elem)
-    → conjugate ≡ K .conj alpha → new ≡ pairAt K (K .mul alpha) (K .mul conjugate) plan a b i j 0 old → new ≡ change K (Her2 alpha) plan a b i j old
-her2-changed K alpha conjugate plan a b i j old new p e = e ∙ ap (λ (k : K .Elem). pairAt K (K .mul alpha) (K .mul k) plan a b i j 0 old) p
+-- and then m', the product of x' and y'
+pub twice : (K : Kind) (sum next last e m' x' y' ex' ey' : K .Elem) → next ≡ K .add sum e → x' ≡ ex' → y' ≡ ey' → m' ≡ K .mul x' y' → last ≡ K .add next m'
+    → last ≡ K .add (K .add sum e) (K .mul ex' ey')
+twice K sum next last e m' x' y' ex' ey' p px py pm pn = more K next x' y' m' last ex' ey' px py pm pn ∙ ap (λ z. K .add z (K .mul ex' ey')) p
 
--- an element in the named triangle is replaced, and any other stays; `flag` is the test's answer
-module _ (K : Kind) (task : Task K) (plan : Plan) (a b c : List (K .Cell)) (i j : ℕ) (flag : Bool) (told : flag ≡ inTriangle (plan .uplo) i j) where
-  pub step-inside : flag ≡ true → (after : List (K .Cell)) → after ≡ changePut K task plan a b i j c → after ≡ changeStep K task plan a b i j c
-  unfolding step
-  step-inside h after e = e ∙ ap (λ (q : Bool). cond q (changePut K task plan a b i j c) c) (sym h ∙ told)
+-- the weighed elements i of x and y
+pub her-same : (K : Kind) (alpha : K .Factor) (x : Matrix K) (i : ℕ) (w : K .Elem) → w ≡ K .scaleReal alpha (x i 0)
+    → (j : ℕ) (old : K .Elem) → addOne K w x j old ≡ herChange K alpha x i j old
+her-same K alpha x i w e j old = ap (λ z. addOne K z x j old) e
 
-  pub step-outside : flag ≡ false → c ≡ changeStep K task plan a b i j c
-  unfolding step
-  step-outside h = ap (λ (q : Bool). cond q (changePut K task plan a b i j c) c) (sym h ∙ told)
+pub her2-same : (K : Kind) (alpha : K .Elem) (x y : Matrix K) (i : ℕ) (w w' : K .Elem) → w ≡ K .mul alpha (x i 0) → w' ≡ K .mul (K .conj alpha) (y i 0)
+    → (j : ℕ) (old : K .Elem) → addTwo K w w' x y j old ≡ her2Change K alpha x y i j old
+her2-same K alpha x y i w w' e e' j old = λ t. addTwo K (e t) (e' t) x y j old

@@ -1,51 +1,44 @@
--- A call that its check passes is ready: its plan reads and writes inside the slabs.
+-- A call that its check passes is ready: it reads and writes inside the slabs.
 use Prim.Native.Nat.{ℕ}
 use mathlib.Core.List.{[], _∷_}
 use mathlib.Core.Path.{_≡_, refl, sym, _∙_}
-use native.Mathlib.Omega.{arith}
 use Rattle.view.specs.declared.View.{View}
 use Rattle.view.specs.declared.Trans.{Trans}
 use Rattle.view.specs.declared.Trans.the-variants.{NoTrans, Trans as Transposed, ConjTrans}
 use Rattle.view.specs.declared.UpLo.{UpLo}
+use Rattle.view.specs.Place.{opViewOf}
 use Rattle.view.specs.Steps.{Accepted}
 use Rattle.view.specs.Judge.{arg}
 use Rattle.view.specs.Checks.{opRows, opCols, trmvShape, hemvShape, syr2kShape}
 use Rattle.view.specs.JudgeLaws.{Passed, Vector, trmv-sizes, hemv-sizes, syr2k-sizes}
+use Rattle.view.specs.TransposeLaws.{op-accepted}
 use Rattle.view.specs.Vector.{columnOf}
 use Rattle.view.specs.VectorLaws.{column-accepted}
 use Rattle.rank.specs.declared.plan.Readings.{Readings}
-use Rattle.rank.specs.Plan.{vectorsPlan, pairedPlan, syrReadings, herReadings}
-use Rattle.rank.specs.Ready.{Operand, Ready}
+use Rattle.rank.specs.Plan.{pairedPlan, syrReadings, herReadings}
+use Rattle.rank.specs.Ready.{Sized, One, Two, Paired}
 
 -- ---- vectors
 
-column-operand : (uplo : UpLo) (x y a v : View) (len : ℕ) → Vector v (a .rows) → a .cols ≡ a .rows → Accepted v len
-    → Operand (vectorsPlan uplo x y a) (columnOf v) len
-column-operand uplo x y a v len s square h =
+column-sized : (v : View) (len n : ℕ) → Vector v n → Accepted v len → Sized (columnOf v) len n 1
+column-sized v len n s h = record { fits = column-accepted v len (s .vector) h; rows = s .length; cols = refl }
+
+pub her-ready : (x a : View) (lx la : ℕ) → Passed (arg x lx ∷ arg a la ∷ []) (trmvShape a x) a → One (columnOf x) lx a la
+her-ready x a lx la h =
+    let s = trmv-sizes a x (h .shape) in
     record {
-      fits = column-accepted v len (s .vector) h;
-      left-rows = s .length;
-      left-cols = refl;
-      right-rows = refl;
-      right-cols = s .length ∙ sym square;
+      x = column-sized x lx (a .rows) (s .1) (h .each .0);
+      target = record { fits = h .each .1 .0; rows = refl; cols = s .0 };
     }
 
-pub her-ready : (uplo : UpLo) (x a : View) (lx la : ℕ) → Passed (arg x lx ∷ arg a la ∷ []) (trmvShape a x) a
-    → Ready (vectorsPlan uplo x x a) 1 lx lx la
-her-ready uplo x a lx la h =
-    let s = trmv-sizes a x (h .shape) in
-    let o = column-operand uplo x x a x lx (s .1) (s .0) (h .each .0) in
-    record { a = o; b = o; terms = omega arith; target = h .each .1 .0 }
-
-pub her2-ready : (uplo : UpLo) (x y a : View) (lx ly la : ℕ) → Passed (arg x lx ∷ arg y ly ∷ arg a la ∷ []) (hemvShape a x y) a
-    → Ready (vectorsPlan uplo x y a) 1 lx ly la
-her2-ready uplo x y a lx ly la h =
+pub her2-ready : (x y a : View) (lx ly la : ℕ) → Passed (arg x lx ∷ arg y ly ∷ arg a la ∷ []) (hemvShape a x y) a
+    → Two (columnOf x) lx (columnOf y) ly a la
+her2-ready x y a lx ly la h =
     let s = hemv-sizes a x y (h .shape) in
     record {
-      a = column-operand uplo x y a x lx (s .1) (s .0) (h .each .0);
-      b = column-operand uplo x y a y ly (s .2) (s .0) (h .each .1 .0);
-      terms = omega arith;
-      target = h .each .1 .1 .0;
+      x = column-sized x lx (a .rows) (s .1) (h .each .0);
+      y = column-sized y ly (a .rows) (s .2) (h .each .1 .0);
+      target = record { fits = h .each .1 .1 .0; rows = refl; cols = s .0 };
     }
 
 -- ---- matrices
@@ -79,25 +72,47 @@ module _ (v a : View) (rows : v .rows ≡ a .rows) (cols : v .cols ≡ a .cols) 
   op-cols Transposed = rows
   op-cols ConjTrans = rows
 
+-- the view of op(A) has op(A)'s sizes
+view-rows : (t : Trans) (v : View) → opViewOf t v .rows ≡ opRows t v
+view-rows NoTrans v = refl
+view-rows Transposed v = refl
+view-rows ConjTrans v = refl
+
+view-cols : (t : Trans) (v : View) → opViewOf t v .cols ≡ opCols t v
+view-cols NoTrans v = refl
+view-cols Transposed v = refl
+view-cols ConjTrans v = refl
+
 module _ (uplo : UpLo) (t : Trans) (r : Readings) (turned : Turned t r) (a b c : View) (la lb lc : ℕ)
     (h : Passed (arg a la ∷ arg b lb ∷ arg c lc ∷ []) (syr2kShape t a b c) c) where
-  operand : (v : View) (len : ℕ) → Accepted v len → v .rows ≡ a .rows → v .cols ≡ a .cols → Operand (pairedPlan uplo t r a b c) v len
-  operand v len fits rows cols =
-      let s = syr2k-sizes t a b c (h .shape) in
-      record {
-        fits = fits;
-        left-rows = turned .left-rows v ∙ op-rows v a rows cols t ∙ sym (s .2);
-        left-cols = turned .left-cols v ∙ op-cols v a rows cols t;
-        right-rows = turned .right-rows v ∙ op-cols v a rows cols t;
-        right-cols = turned .right-cols v ∙ op-rows v a rows cols t ∙ sym (s .3);
-      }
+  module _ (v : View) (len : ℕ) (fits : Accepted v len) (rows : v .rows ≡ a .rows) (cols : v .cols ≡ a .cols) where
+    left : Sized (opViewOf (r .left) v) len (c .rows) (opCols t a)
+    left =
+        let s = syr2k-sizes t a b c (h .shape) in
+        record {
+          fits = op-accepted (r .left) v len fits;
+          rows = view-rows (r .left) v ∙ turned .left-rows v ∙ op-rows v a rows cols t ∙ sym (s .2);
+          cols = view-cols (r .left) v ∙ turned .left-cols v ∙ op-cols v a rows cols t;
+        }
 
-  pub paired-ready : Ready (pairedPlan uplo t r a b c) 0 la lb lc
+    right : Sized (opViewOf (r .right) v) len (opCols t a) (c .cols)
+    right =
+        let s = syr2k-sizes t a b c (h .shape) in
+        record {
+          fits = op-accepted (r .right) v len fits;
+          rows = view-rows (r .right) v ∙ turned .right-rows v ∙ op-cols v a rows cols t;
+          cols = view-cols (r .right) v ∙ turned .right-cols v ∙ op-rows v a rows cols t ∙ sym (s .3);
+        }
+
+  pub paired-ready : Paired (pairedPlan uplo t r a b c) la lb lc
   paired-ready =
       let s = syr2k-sizes t a b c (h .shape) in
       record {
-        a = operand a la (h .each .0) refl refl;
-        b = operand b lb (h .each .1 .0) (s .0) (s .1);
-        terms = omega arith;
-        target = h .each .1 .1 .0;
+        factors = record {
+          left-a = left a la (h .each .0) refl refl;
+          right-b = right b lb (h .each .1 .0) (s .0) (s .1);
+          left-b = left b lb (h .each .1 .0) (s .0) (s .1);
+          right-a = right a la (h .each .0) refl refl;
+        };
+        target = record { fits = h .each .1 .1 .0; rows = refl; cols = s .3 ∙ sym (s .2) };
       }

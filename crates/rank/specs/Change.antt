@@ -1,72 +1,70 @@
--- What a rank update does to an element of its target, over any number kind.
+-- What becomes of an element of the target, over any number kind.
 use Prim.Native.Nat.{ℕ}
+use mathlib.Core.Bool.{Bool, cond}
 use mathlib.Core.List.{List}
 use Rattle.number.specs.Kind.{Kind}
-use Rattle.view.specs.declared.Trans.{Trans}
+use Rattle.view.specs.declared.View.{View}
 use Rattle.view.specs.Place.{index}
 use Rattle.slab.specs.Elem.{elem}
-use Rattle.slab.specs.Update as Update
-use Rattle.blas.specs.Matrix.{Matrix, op, pairSum}
-use Rattle.view.specs.Triangle.{inTriangle}
+use Rattle.slab.specs.Update.{Change}
+use Rattle.blas.specs.Matrix.{Matrix, pairSum}
 use Rattle.rank.specs.declared.plan.Plan.{Plan}
 
--- the routine, with its scalars; for beta, what it does to an element
-pub data Task (K : Kind) : Type 0 where
-  Her : K .Factor → Task K
-  Her2 : K .Elem → Task K
-  Syr2k : K .Elem → (K .Elem → K .Elem) → Task K
-  Her2k : K .Elem → (K .Elem → K .Elem) → Task K
+-- element (i, j) replaced by `new` of itself
+abbrev pub replaced : (K : Kind) → View → ℕ → ℕ → (K .Elem → K .Elem) → List (K .Cell) → List (K .Cell)
+replaced K v i j new c = K .put c (index v i j) (new (elem K c v i j))
 
--- how many terms the products must have
-abbrev pub least : {K : Kind} → Task K → ℕ
-least (Her alpha) = 1
-least (Her2 alpha) = 1
-least (Syr2k alpha byBeta) = 0
-least (Her2k alpha byBeta) = 0
+-- what a view shows, conjugated where asked
+abbrev pub reading : (K : Kind) → Bool → List (K .Cell) → View → Matrix K
+reading K conj s v i j = cond conj (K .conj (elem K s v i j)) (elem K s v i j)
 
--- left(a)(i, p), weighed, times right(b)(p, j)
-abbrev pub productAt : (K : Kind) → (K .Elem → K .Elem) → Trans → Matrix K → Trans → Matrix K → ℕ → ℕ → ℕ → K .Elem
-productAt K weigh left a right b i j p = K .mul (weigh (op K left a i p)) (op K right b p j)
+-- ---- her and her2: w and w' are the weighed elements i of x and y
 
-module _ (K : Kind) (weigh weigh' : K .Elem → K .Elem) (plan : Plan) (a b : List (K .Cell)) (i j : ℕ) where
-  -- the two products at p
-  abbrev pub firstAt : ℕ → K .Elem
-  firstAt p = productAt K weigh (plan .left) (elem K a (plan .a)) (plan .right) (elem K b (plan .b)) i j p
+abbrev pub addOne : (K : Kind) → K .Elem → Matrix K → ℕ → K .Elem → K .Elem
+addOne K w x j old = K .add old (K .mul w (K .conj (x j 0)))
 
-  abbrev pub secondAt : ℕ → K .Elem
-  secondAt p = productAt K weigh' (plan .left) (elem K b (plan .b)) (plan .right) (elem K a (plan .a)) i j p
+abbrev pub addTwo : (K : Kind) → K .Elem → K .Elem → Matrix K → Matrix K → ℕ → K .Elem → K .Elem
+addTwo K w w' x y j old = K .add (K .add old (K .mul w (K .conj (y j 0)))) (K .mul w' (K .conj (x j 0)))
 
-  -- both added, one after the other
-  abbrev pub pairAt : ℕ → K .Elem → K .Elem
-  pairAt p sum = K .add (K .add sum (firstAt p)) (secondAt p)
+-- ---- syr2k and her2k
 
-  -- the sum of the first n pairs
-  abbrev pub pairsAt : ℕ → K .Elem
-  pairsAt n = pairSum K n firstAt secondAt
+module _ (K : Kind) (plan : Plan) (a b : List (K .Cell)) where
+  -- the factors of the two products
+  abbrev pub leftA : Matrix K
+  leftA = reading K (plan .«left_conj») a (plan .«left_a»)
 
--- what becomes of element (i, j)
-abbrev pub change : (K : Kind) → Task K → Plan → List (K .Cell) → List (K .Cell) → Update.Change K
-change K (Her alpha) plan a b i j old = K .add old (firstAt K (K .scaleReal alpha) (K .scaleReal alpha) plan a b i j 0)
-change K (Her2 alpha) plan a b i j old = pairAt K (K .mul alpha) (K .mul (K .conj alpha)) plan a b i j 0 old
-change K (Syr2k alpha byBeta) plan a b i j old = K .add (byBeta old) (K .mul alpha (pairsAt K (λ x. x) (λ x. x) plan a b i j (plan .terms)))
-change K (Her2k alpha byBeta) plan a b i j old = K .add (byBeta old) (pairsAt K (K .mul alpha) (K .mul (K .conj alpha)) plan a b i j (plan .terms))
+  abbrev pub rightB : Matrix K
+  rightB = reading K (plan .«right_conj») b (plan .«right_b»)
 
-module _ (K : Kind) (task : Task K) (plan : Plan) (a b : List (K .Cell)) where
-  -- element (i, j) replaced
-  abbrev pub changePut : ℕ → ℕ → List (K .Cell) → List (K .Cell)
-  changePut i j c = K .put c (index (plan .target) i j) (change K task plan a b i j (elem K c (plan .target) i j))
+  abbrev pub leftB : Matrix K
+  leftB = reading K (plan .«left_conj») b (plan .«left_b»)
 
-  -- the same where it is in the named triangle
-  abbrev pub changeStep : ℕ → ℕ → List (K .Cell) → List (K .Cell)
-  changeStep i j c = Update.step K (plan .target) (inTriangle (plan .uplo)) (change K task plan a b) i j c
+  abbrev pub rightA : Matrix K
+  rightA = reading K (plan .«right_conj») a (plan .«right_a»)
 
-  -- the first n elements of row i, and the first m rows
-  abbrev pub changeRow : ℕ → ℕ → List (K .Cell) → List (K .Cell)
-  changeRow i n c = Update.row K (plan .target) (inTriangle (plan .uplo)) (change K task plan a b) i n c
+  -- the two products at p, added one after the other, and the sum of the first n pairs
+  abbrev pub pairAt : ℕ → ℕ → ℕ → K .Elem → K .Elem
+  pairAt i j p sum = K .add (K .add sum (K .mul (leftA i p) (rightB p j))) (K .mul (leftB i p) (rightA p j))
 
-  abbrev pub changeRows : ℕ → List (K .Cell) → List (K .Cell)
-  changeRows m c = Update.rows K (plan .target) (inTriangle (plan .uplo)) (change K task plan a b) m c
+  abbrev pub pairsAt : ℕ → ℕ → ℕ → K .Elem
+  pairsAt i j n = pairSum K n (λ p. K .mul (leftA i p) (rightB p j)) (λ p. K .mul (leftB i p) (rightA p j))
 
-  -- the whole target
-  abbrev pub work : List (K .Cell) → List (K .Cell)
-  work c = Update.update K (plan .target) (inTriangle (plan .uplo)) (change K task plan a b) c
+  -- the same, the left factors weighed by alpha and by its conjugate
+  abbrev pub weighedAt : K .Elem → ℕ → ℕ → ℕ → K .Elem → K .Elem
+  weighedAt alpha i j p sum =
+      K .add
+      (K .add sum (K .mul (K .mul alpha (leftA i p)) (rightB p j)))
+      (K .mul (K .mul (K .conj alpha) (leftB i p)) (rightA p j))
+
+  abbrev pub weighedsAt : K .Elem → ℕ → ℕ → ℕ → K .Elem
+  weighedsAt alpha i j n =
+      pairSum K n
+      (λ p. K .mul (K .mul alpha (leftA i p)) (rightB p j))
+      (λ p. K .mul (K .mul (K .conj alpha) (leftB i p)) (rightA p j))
+
+  -- `byBeta` is what beta does to an element
+  abbrev pub syr2kChange : K .Elem → (K .Elem → K .Elem) → Change K
+  syr2kChange alpha byBeta i j old = K .add (byBeta old) (K .mul alpha (pairsAt i j (plan .terms)))
+
+  abbrev pub her2kChange : K .Elem → (K .Elem → K .Elem) → Change K
+  her2kChange alpha byBeta i j old = K .add (byBeta old) (weighedsAt alpha i j (plan .terms))

@@ -1,22 +1,24 @@
 // The rank updates of complex numbers.
 
 ghost use mathlib.Core.Path.{_≡_};
-ghost use Prim.Native.Nat.{_<_, _≤_};
+ghost use Prim.Native.Nat.{_<_};
 ghost use Rattle.number.specs.Kind.{complex};
+ghost use Rattle.number.specs.Scaling.{scaleByComplex};
+ghost use Rattle.view.specs.Triangle.{inTriangle};
 ghost use Rattle.slab.specs.Elem.{elem, lent};
-ghost use Rattle.blas.specs.Matrix.{op as opOf};
+ghost use Rattle.slab.specs.Update.{row, update};
 ghost use Rattle.blas.specs.Outcome.{Gives};
 ghost use Rattle.blas.specs.Her;
 ghost use Rattle.blas.specs.Her2;
 ghost use Rattle.blas.specs.Her2k;
 ghost use Rattle.blas.specs.Syr2k;
-ghost use Rattle.rank.specs.Tasks.{weighComplex, taskComplex};
-ghost use Rattle.rank.specs.Change.{productAt, pairAt, pairsAt, change, changePut, changeStep, changeRow, work, least};
-ghost use Rattle.rank.specs.Ready.{Shows, Readable, Factors, Entry, Ready, ReadyRow, ReadyAt};
+ghost use Rattle.rank.specs.Change.{replaced, reading, addOne, addTwo, pairAt, pairsAt, weighedAt, weighedsAt, syr2kChange, her2kChange};
+ghost use Rattle.rank.specs.Ready.{Shows, One, Two, Entry, Paired};
 use crate::plan::Plan;
+use crate::plan::end_col;
+use crate::plan::first_col;
 use crate::plan::her2k_plan;
 use crate::plan::syr2k_plan;
-use crate::plan::vectors_plan;
 use number::BetaComplex;
 use number::Complex;
 use slab::get_complex;
@@ -30,35 +32,10 @@ use view::check_her2;
 use view::check_her2k;
 use view::check_syr2k;
 use view::cols;
-use view::in_triangle;
+use view::column;
 use view::passed;
 use view::place;
 use view::rows;
-
-// What a left factor is multiplied by first: nothing, a real alpha, or alpha.
-pub enum Weight {
-    One,
-    Real(f64),
-    Number(Complex),
-}
-
-// The routine, with its scalars.
-pub enum Task {
-    Her(f64),
-    Her2(Complex),
-    Syr2k(Complex, BetaComplex),
-    Her2k(Complex, BetaComplex),
-}
-
-fn weighed(w: Weight, x: Complex) -> Complex
-    ensures { λ r. ⌜ r ≡ weighComplex w x ⌝ }
-{
-    match w {
-        Weight::One => x,
-        Weight::Real(v) => x.scale_real(v),
-        Weight::Number(alpha) => alpha.mul(x),
-    }
-}
 
 // Element (i, j) of a matrix.
 fn at(s: &[f64], v: View, i: usize, j: usize) -> Complex
@@ -68,41 +45,154 @@ fn at(s: &[f64], v: View, i: usize, j: usize) -> Complex
     get_complex(s, place(v, i, j))
 }
 
-// Element (i, j) of op(A).
-fn op(t: Trans, s: &[f64], v: View, i: usize, j: usize) -> Complex
-    requires { ⌜ Readable t v (complex .count (now s)) i j ⌝ }
-    ensures { λ r. ⌜ r ≡ opOf complex t (elem complex (now (s .entry)) v) i j ⌝ }
+// The same, conjugated where asked.
+fn read(conj: bool, s: &[f64], v: View, i: usize, j: usize) -> Complex
+    requires { ⌜ Shows v (complex .count (now s)) i j ⌝ }
+    ensures { λ r. ⌜ r ≡ reading complex conj (now (s .entry)) v i j ⌝ }
 {
-    match t {
-        Trans::NoTrans => at(s, v, i, j),
-        Trans::Trans => at(s, v, j, i),
-        Trans::ConjTrans => at(s, v, j, i).conj(),
+    let x = at(s, v, i, j);
+    if conj { x.conj() } else { x }
+}
+
+// Element (i, j) of her's target, where w is alpha·xi.
+fn her_entry(w: Complex, x: &[f64], vx: View, a: &mut [f64], va: View, i: usize, j: usize)
+    requires { ⌜ Shows vx (complex .count (now x)) j 0 × Shows va (complex .count (now a)) i j ⌝ }
+    ensures { λ _. ⌜ now (a .exit) ≡ replaced complex va i j (addOne complex w (elem complex (now (x .entry)) vx) j) (now (a .entry)) ⌝ }
+{
+    let k = place(va, i, j);
+    let old = get_complex(a, k);
+    let term = w.mul(read(true, x, vx, j, 0));
+    put_complex(a, k, old.add(term));
+}
+
+// Row i of her's target.
+fn her_row(uplo: UpLo, alpha: f64, x: &[f64], vx: View, a: &mut [f64], va: View, i: usize)
+    requires { ⌜ One vx (complex .count (now x)) va (complex .count (now a)) × (i < va .rows) ⌝ }
+    ensures { λ _. ⌜ now (a .exit) ≡ row complex va (inTriangle uplo) (Her.herChange complex alpha (elem complex (now (x .entry)) vx)) i (va .cols) (now (a .entry)) ⌝ }
+{
+    let w = at(x, vx, i, 0).scale_real(alpha);
+    let end = end_col(uplo, i, cols(va));
+    let mut j = first_col(uplo, i);
+    while j < end {
+        her_entry(w, x, vx, a, va, i, j);
+        j += 1;
     }
 }
 
-// left(a)(i, p), weighed, times right(b)(p, j).
-fn product(
-    w: Weight,
-    left: Trans,
-    a: &[f64],
+// The whole of her's target; x is a column.
+fn her_rows(uplo: UpLo, alpha: f64, x: &[f64], vx: View, a: &mut [f64], va: View)
+    requires { ⌜ One vx (complex .count (now x)) va (complex .count (now a)) ⌝ }
+    ensures { λ _. ⌜ now (a .exit) ≡ update complex va (inTriangle uplo) (Her.herChange complex alpha (elem complex (now (x .entry)) vx)) (now (a .entry)) ⌝ }
+{
+    let m = rows(va);
+    let mut i = 0;
+    while i < m {
+        her_row(uplo, alpha, x, vx, a, va, i);
+        i += 1;
+    }
+}
+
+// Element (i, j) of her2's target, where w is alpha·xi and w2 is conj(alpha)·yi.
+fn her2_entry(
+    w: Complex,
+    w2: Complex,
+    x: &[f64],
+    vx: View,
+    y: &[f64],
+    vy: View,
+    a: &mut [f64],
     va: View,
-    right: Trans,
-    b: &[f64],
-    vb: View,
-    p: usize,
     i: usize,
     j: usize,
-) -> Complex
-    requires { ⌜ Factors left va (complex .count (now a)) right vb (complex .count (now b)) p i j ⌝ }
-    ensures { λ r. ⌜ r ≡ productAt complex (weighComplex w) left (elem complex (now (a .entry)) va) right (elem complex (now (b .entry)) vb) i j p ⌝ }
+)
+    requires { ⌜ Shows vx (complex .count (now x)) j 0 × Shows vy (complex .count (now y)) j 0 × Shows va (complex .count (now a)) i j ⌝ }
+    ensures { λ _. ⌜ now (a .exit) ≡ replaced complex va i j (addTwo complex w w2 (elem complex (now (x .entry)) vx) (elem complex (now (y .entry)) vy) j) (now (a .entry)) ⌝ }
 {
-    weighed(w, op(left, a, va, i, p)).mul(op(right, b, vb, p, j))
+    let k = place(va, i, j);
+    let old = get_complex(a, k);
+    let first = w.mul(read(true, y, vy, j, 0));
+    let second = w2.mul(read(true, x, vx, j, 0));
+    put_complex(a, k, old.add(first).add(second));
+}
+
+// Row i of her2's target.
+fn her2_row(
+    uplo: UpLo,
+    alpha: Complex,
+    x: &[f64],
+    vx: View,
+    y: &[f64],
+    vy: View,
+    a: &mut [f64],
+    va: View,
+    i: usize,
+)
+    requires { ⌜ Two vx (complex .count (now x)) vy (complex .count (now y)) va (complex .count (now a)) × (i < va .rows) ⌝ }
+    ensures { λ _. ⌜ now (a .exit) ≡ row complex va (inTriangle uplo) (Her2.her2Change complex alpha (elem complex (now (x .entry)) vx) (elem complex (now (y .entry)) vy)) i (va .cols) (now (a .entry)) ⌝ }
+{
+    let w = alpha.mul(at(x, vx, i, 0));
+    let conjugate = alpha.conj();
+    let w2 = conjugate.mul(at(y, vy, i, 0));
+    let end = end_col(uplo, i, cols(va));
+    let mut j = first_col(uplo, i);
+    while j < end {
+        her2_entry(w, w2, x, vx, y, vy, a, va, i, j);
+        j += 1;
+    }
+}
+
+// The whole of her2's target; x and y are columns.
+fn her2_rows(
+    uplo: UpLo,
+    alpha: Complex,
+    x: &[f64],
+    vx: View,
+    y: &[f64],
+    vy: View,
+    a: &mut [f64],
+    va: View,
+)
+    requires { ⌜ Two vx (complex .count (now x)) vy (complex .count (now y)) va (complex .count (now a)) ⌝ }
+    ensures { λ _. ⌜ now (a .exit) ≡ update complex va (inTriangle uplo) (Her2.her2Change complex alpha (elem complex (now (x .entry)) vx) (elem complex (now (y .entry)) vy)) (now (a .entry)) ⌝ }
+{
+    let m = rows(va);
+    let mut i = 0;
+    while i < m {
+        her2_row(uplo, alpha, x, vx, y, vy, a, va, i);
+        i += 1;
+    }
 }
 
 // A sum, with the two products at p added one after the other.
-fn add_pair(
-    w: Weight,
-    w2: Weight,
+fn add_pair(plan: Plan, a: &[f64], b: &[f64], p: usize, i: usize, j: usize, sum: Complex) -> Complex
+    requires { ⌜ Entry plan (complex .count (now a)) (complex .count (now b)) i j × (p < plan .terms) ⌝ }
+    ensures { λ r. ⌜ r ≡ pairAt complex plan (now (a .entry)) (now (b .entry)) i j p sum ⌝ }
+{
+    let left = plan.left_conj;
+    let right = plan.right_conj;
+    let first = read(left, a, plan.left_a, i, p).mul(read(right, b, plan.right_b, p, j));
+    let second = read(left, b, plan.left_b, i, p).mul(read(right, a, plan.right_a, p, j));
+    sum.add(first).add(second)
+}
+
+// The sum of all pairs of products for element (i, j).
+fn pair_sum(plan: Plan, a: &[f64], b: &[f64], i: usize, j: usize) -> Complex
+    requires { ⌜ Entry plan (complex .count (now a)) (complex .count (now b)) i j ⌝ }
+    ensures { λ r. ⌜ r ≡ pairsAt complex plan (now (a .entry)) (now (b .entry)) i j (plan .terms) ⌝ }
+{
+    let n = plan.terms;
+    let mut sum = Complex::ZERO;
+    let mut p = 0;
+    while p < n {
+        sum = add_pair(plan, a, b, p, i, j, sum);
+        p += 1;
+    }
+    sum
+}
+
+// The same with the left factors weighed by alpha and by its conjugate.
+fn add_weighed(
+    alpha: Complex,
     plan: Plan,
     a: &[f64],
     b: &[f64],
@@ -112,125 +202,137 @@ fn add_pair(
     sum: Complex,
 ) -> Complex
     requires { ⌜ Entry plan (complex .count (now a)) (complex .count (now b)) i j × (p < plan .terms) ⌝ }
-    ensures { λ r. ⌜ r ≡ pairAt complex (weighComplex w) (weighComplex w2) plan (now (a .entry)) (now (b .entry)) i j p sum ⌝ }
+    ensures { λ r. ⌜ r ≡ weighedAt complex plan (now (a .entry)) (now (b .entry)) alpha i j p sum ⌝ }
 {
-    let left = plan.left;
-    let right = plan.right;
-    let first = product(w, left, a, plan.a, right, b, plan.b, p, i, j);
-    let second = product(w2, left, b, plan.b, right, a, plan.a, p, i, j);
+    let left = plan.left_conj;
+    let right = plan.right_conj;
+    let x = alpha.mul(read(left, a, plan.left_a, i, p));
+    let y = alpha.conj().mul(read(left, b, plan.left_b, i, p));
+    let first = x.mul(read(right, b, plan.right_b, p, j));
+    let second = y.mul(read(right, a, plan.right_a, p, j));
     sum.add(first).add(second)
 }
 
-// The sum of all pairs of products for element (i, j).
-fn pair_sum(w: Weight, w2: Weight, plan: Plan, a: &[f64], b: &[f64], i: usize, j: usize) -> Complex
+fn weighed_sum(alpha: Complex, plan: Plan, a: &[f64], b: &[f64], i: usize, j: usize) -> Complex
     requires { ⌜ Entry plan (complex .count (now a)) (complex .count (now b)) i j ⌝ }
-    ensures { λ r. ⌜ r ≡ pairsAt complex (weighComplex w) (weighComplex w2) plan (now (a .entry)) (now (b .entry)) i j (plan .terms) ⌝ }
+    ensures { λ r. ⌜ r ≡ weighedsAt complex plan (now (a .entry)) (now (b .entry)) alpha i j (plan .terms) ⌝ }
 {
     let n = plan.terms;
     let mut sum = Complex::ZERO;
     let mut p = 0;
     while p < n {
-        sum = add_pair(w, w2, plan, a, b, p, i, j, sum);
+        sum = add_weighed(alpha, plan, a, b, p, i, j, sum);
         p += 1;
     }
     sum
 }
 
-// What becomes of element (i, j), which was `old`.
-fn changed(
-    task: Task,
+// Element (i, j) of syr2k's target.
+fn syr2k_entry(
+    alpha: Complex,
+    beta: BetaComplex,
     plan: Plan,
     a: &[f64],
     b: &[f64],
+    c: &mut [f64],
     i: usize,
     j: usize,
-    old: Complex,
-) -> Complex
-    requires { ⌜ Entry plan (complex .count (now a)) (complex .count (now b)) i j × (least (taskComplex task) ≤ plan .terms) ⌝ }
-    ensures { λ r. ⌜ r ≡ change complex (taskComplex task) plan (now (a .entry)) (now (b .entry)) i j old ⌝ }
-{
-    match task {
-        Task::Her(alpha) => {
-            let left = plan.left;
-            let right = plan.right;
-            let term = product(
-                Weight::Real(alpha),
-                left,
-                a,
-                plan.a,
-                right,
-                b,
-                plan.b,
-                0,
-                i,
-                j,
-            );
-            old.add(term)
-        }
-        Task::Her2(alpha) => {
-            let conjugate = alpha.conj();
-            let first = Weight::Number(alpha);
-            let second = Weight::Number(conjugate);
-            add_pair(first, second, plan, a, b, 0, i, j, old)
-        }
-        Task::Syr2k(alpha, beta) => {
-            let sum = pair_sum(Weight::One, Weight::One, plan, a, b, i, j);
-            beta.scale(old).add(alpha.mul(sum))
-        }
-        Task::Her2k(alpha, beta) => {
-            let conjugate = alpha.conj();
-            let first = Weight::Number(alpha);
-            let second = Weight::Number(conjugate);
-            beta.scale(old)
-                .add(pair_sum(first, second, plan, a, b, i, j))
-        }
-    }
-}
-
-// Element (i, j) of the target.
-fn entry(task: Task, plan: Plan, a: &[f64], b: &[f64], c: &mut [f64], i: usize, j: usize)
-    requires { ⌜ ReadyAt plan (least (taskComplex task)) (complex .count (now a)) (complex .count (now b)) (complex .count (now c)) i j ⌝ }
-    ensures { λ _. ⌜ now (c .exit) ≡ changePut complex (taskComplex task) plan (now (a .entry)) (now (b .entry)) i j (now (c .entry)) ⌝ }
+)
+    requires { ⌜ Entry plan (complex .count (now a)) (complex .count (now b)) i j × Shows (plan .target) (complex .count (now c)) i j ⌝ }
+    ensures { λ _. ⌜ now (c .exit) ≡ replaced complex (plan .target) i j (syr2kChange complex plan (now (a .entry)) (now (b .entry)) alpha (scaleByComplex beta) i j) (now (c .entry)) ⌝ }
 {
     let k = place(plan.target, i, j);
-    let old = get_complex(c, k);
-    let new = changed(task, plan, a, b, i, j, old);
-    put_complex(c, k, new);
+    let old = beta.scale(get_complex(c, k));
+    let sum = pair_sum(plan, a, b, i, j);
+    put_complex(c, k, old.add(alpha.mul(sum)));
 }
 
-// Element (i, j) of the target, where it is in the named triangle.
-fn step(task: Task, plan: Plan, a: &[f64], b: &[f64], c: &mut [f64], i: usize, j: usize)
-    requires { ⌜ ReadyAt plan (least (taskComplex task)) (complex .count (now a)) (complex .count (now b)) (complex .count (now c)) i j ⌝ }
-    ensures { λ _. ⌜ now (c .exit) ≡ changeStep complex (taskComplex task) plan (now (a .entry)) (now (b .entry)) i j (now (c .entry)) ⌝ }
+// Row i of syr2k's target.
+fn syr2k_row(
+    alpha: Complex,
+    beta: BetaComplex,
+    plan: Plan,
+    a: &[f64],
+    b: &[f64],
+    c: &mut [f64],
+    i: usize,
+)
+    requires { ⌜ Paired plan (complex .count (now a)) (complex .count (now b)) (complex .count (now c)) × (i < plan .target .rows) ⌝ }
+    ensures { λ _. ⌜ now (c .exit) ≡ row complex (plan .target) (inTriangle (plan .uplo)) (syr2kChange complex plan (now (a .entry)) (now (b .entry)) alpha (scaleByComplex beta)) i (plan .target .cols) (now (c .entry)) ⌝ }
 {
     let uplo = plan.uplo;
-    if in_triangle(uplo, i, j) {
-        entry(task, plan, a, b, c, i, j);
-    }
-}
-
-// Row i of the target.
-fn row(task: Task, plan: Plan, a: &[f64], b: &[f64], c: &mut [f64], i: usize)
-    requires { ⌜ ReadyRow plan (least (taskComplex task)) (complex .count (now a)) (complex .count (now b)) (complex .count (now c)) i ⌝ }
-    ensures { λ _. ⌜ now (c .exit) ≡ changeRow complex (taskComplex task) plan (now (a .entry)) (now (b .entry)) i (plan .target .cols) (now (c .entry)) ⌝ }
-{
-    let n = cols(plan.target);
-    let mut j = 0;
-    while j < n {
-        step(task, plan, a, b, c, i, j);
+    let end = end_col(uplo, i, cols(plan.target));
+    let mut j = first_col(uplo, i);
+    while j < end {
+        syr2k_entry(alpha, beta, plan, a, b, c, i, j);
         j += 1;
     }
 }
 
-// The whole target.
-fn run(task: Task, plan: Plan, a: &[f64], b: &[f64], c: &mut [f64])
-    requires { ⌜ Ready plan (least (taskComplex task)) (complex .count (now a)) (complex .count (now b)) (complex .count (now c)) ⌝ }
-    ensures { λ _. ⌜ now (c .exit) ≡ work complex (taskComplex task) plan (now (a .entry)) (now (b .entry)) (now (c .entry)) ⌝ }
+// The whole of syr2k's target.
+fn syr2k_rows(alpha: Complex, beta: BetaComplex, plan: Plan, a: &[f64], b: &[f64], c: &mut [f64])
+    requires { ⌜ Paired plan (complex .count (now a)) (complex .count (now b)) (complex .count (now c)) ⌝ }
+    ensures { λ _. ⌜ now (c .exit) ≡ update complex (plan .target) (inTriangle (plan .uplo)) (syr2kChange complex plan (now (a .entry)) (now (b .entry)) alpha (scaleByComplex beta)) (now (c .entry)) ⌝ }
 {
     let m = rows(plan.target);
     let mut i = 0;
     while i < m {
-        row(task, plan, a, b, c, i);
+        syr2k_row(alpha, beta, plan, a, b, c, i);
+        i += 1;
+    }
+}
+
+// Element (i, j) of her2k's target.
+fn her2k_entry(
+    alpha: Complex,
+    beta: BetaComplex,
+    plan: Plan,
+    a: &[f64],
+    b: &[f64],
+    c: &mut [f64],
+    i: usize,
+    j: usize,
+)
+    requires { ⌜ Entry plan (complex .count (now a)) (complex .count (now b)) i j × Shows (plan .target) (complex .count (now c)) i j ⌝ }
+    ensures { λ _. ⌜ now (c .exit) ≡ replaced complex (plan .target) i j (her2kChange complex plan (now (a .entry)) (now (b .entry)) alpha (scaleByComplex beta) i j) (now (c .entry)) ⌝ }
+{
+    let k = place(plan.target, i, j);
+    let old = beta.scale(get_complex(c, k));
+    let sum = weighed_sum(alpha, plan, a, b, i, j);
+    put_complex(c, k, old.add(sum));
+}
+
+// Row i of her2k's target.
+fn her2k_row(
+    alpha: Complex,
+    beta: BetaComplex,
+    plan: Plan,
+    a: &[f64],
+    b: &[f64],
+    c: &mut [f64],
+    i: usize,
+)
+    requires { ⌜ Paired plan (complex .count (now a)) (complex .count (now b)) (complex .count (now c)) × (i < plan .target .rows) ⌝ }
+    ensures { λ _. ⌜ now (c .exit) ≡ row complex (plan .target) (inTriangle (plan .uplo)) (her2kChange complex plan (now (a .entry)) (now (b .entry)) alpha (scaleByComplex beta)) i (plan .target .cols) (now (c .entry)) ⌝ }
+{
+    let uplo = plan.uplo;
+    let end = end_col(uplo, i, cols(plan.target));
+    let mut j = first_col(uplo, i);
+    while j < end {
+        her2k_entry(alpha, beta, plan, a, b, c, i, j);
+        j += 1;
+    }
+}
+
+// The whole of her2k's target.
+fn her2k_rows(alpha: Complex, beta: BetaComplex, plan: Plan, a: &[f64], b: &[f64], c: &mut [f64])
+    requires { ⌜ Paired plan (complex .count (now a)) (complex .count (now b)) (complex .count (now c)) ⌝ }
+    ensures { λ _. ⌜ now (c .exit) ≡ update complex (plan .target) (inTriangle (plan .uplo)) (her2kChange complex plan (now (a .entry)) (now (b .entry)) alpha (scaleByComplex beta)) (now (c .entry)) ⌝ }
+{
+    let m = rows(plan.target);
+    let mut i = 0;
+    while i < m {
+        her2k_row(alpha, beta, plan, a, b, c, i);
         i += 1;
     }
 }
@@ -241,7 +343,7 @@ pub fn her(uplo: UpLo, alpha: f64, x: &[f64], vx: View, a: &mut [f64], va: View)
 {
     let answer = check_her(vx, x.len() / 2, va, a.len() / 2);
     if passed(answer) {
-        run(Task::Her(alpha), vectors_plan(uplo, vx, vx, va), x, x, a);
+        her_rows(uplo, alpha, x, column(vx), a, va);
     }
     answer
 }
@@ -261,7 +363,7 @@ pub fn her2(
 {
     let answer = check_her2(vx, x.len() / 2, vy, y.len() / 2, va, a.len() / 2);
     if passed(answer) {
-        run(Task::Her2(alpha), vectors_plan(uplo, vx, vy, va), x, y, a);
+        her2_rows(uplo, alpha, x, column(vx), y, column(vy), a, va);
     }
     answer
 }
@@ -283,8 +385,8 @@ pub fn syr2k(
 {
     let answer = check_syr2k(trans, va, a.len() / 2, vb, b.len() / 2, vc, c.len() / 2);
     if passed(answer) {
-        let task = Task::Syr2k(alpha, BetaComplex::judge(beta));
-        run(task, syr2k_plan(uplo, trans, va, vb, vc), a, b, c);
+        let plan = syr2k_plan(uplo, trans, va, vb, vc);
+        syr2k_rows(alpha, BetaComplex::judge(beta), plan, a, b, c);
     }
     answer
 }
@@ -306,8 +408,8 @@ pub fn her2k(
 {
     let answer = check_her2k(trans, va, a.len() / 2, vb, b.len() / 2, vc, c.len() / 2);
     if passed(answer) {
-        let task = Task::Her2k(alpha, BetaComplex::judge_real(beta));
-        run(task, her2k_plan(uplo, trans, va, vb, vc), a, b, c);
+        let plan = her2k_plan(uplo, trans, va, vb, vc);
+        her2k_rows(alpha, BetaComplex::judge_real(beta), plan, a, b, c);
     }
     answer
 }

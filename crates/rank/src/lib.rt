@@ -1,4 +1,4 @@
-// The rank updates: her, her2, syr2k and her2k, for each number kind, over one engine.
+// The rank updates: her, her2, syr2k and her2k, for each number kind.
 // Translated from control-rs; NOTICE names the source.
 
 pub mod complex;

@@ -1,14 +1,36 @@
-// The plan of a rank update: the same for every number kind.
+// What the rank updates share between the number kinds: the columns of a row in the named triangle, and the plan of two matrices.
 
 ghost use mathlib.Core.Path.{_≡_};
-ghost use mathlib.Core.Bool.{true};
-ghost use Rattle.view.specs.Refusals.{isVector};
-ghost use Rattle.rank.specs.Plan.{syrReadings, herReadings, vectorsPlan, pairedPlan, syr2kPlan, her2kPlan};
+ghost use Prim.Native.Nat.{_<_};
+ghost use Rattle.rank.specs.Columns.{firstCol, endCol};
+ghost use Rattle.rank.specs.Plan.{syrReadings, herReadings, pairedPlan, syr2kPlan, her2kPlan};
 use view::Trans;
 use view::UpLo;
 use view::View;
-use view::column;
+use view::conjugates;
 use view::op_cols;
+use view::op_view;
+
+// The first column of row i in the named triangle.
+pub fn first_col(uplo: UpLo, i: usize) -> usize
+    ensures { λ r. ⌜ r ≡ firstCol uplo i ⌝ }
+{
+    match uplo {
+        UpLo::Upper => i,
+        UpLo::Lower => 0,
+    }
+}
+
+// The column after the last one, with n columns.
+pub fn end_col(uplo: UpLo, i: usize, n: usize) -> usize
+    requires { ⌜ i < n ⌝ }
+    ensures { λ r. ⌜ r ≡ endCol uplo i n ⌝ }
+{
+    match uplo {
+        UpLo::Upper => n,
+        UpLo::Lower => i + 1,
+    }
+}
 
 // How the left and the right factor of a product are read.
 pub struct Readings {
@@ -16,34 +38,18 @@ pub struct Readings {
     pub right: Trans,
 }
 
-// The target's named triangle, and the operands a and b of the products left(a)(i, p) · right(b)(p, j) and
-// left(b)(i, p) · right(a)(p, j), with p below `terms`.
+// The target's named triangle, and where the factors of the products left(a)(i, p) · right(b)(p, j) and
+// left(b)(i, p) · right(a)(p, j) are read, with p below `terms`, and whether they are conjugated.
 pub struct Plan {
     pub uplo: UpLo,
-    pub left: Trans,
-    pub right: Trans,
-    pub a: View,
-    pub b: View,
+    pub left_a: View,
+    pub right_b: View,
+    pub left_b: View,
+    pub right_a: View,
+    pub left_conj: bool,
+    pub right_conj: bool,
     pub terms: usize,
     pub target: View,
-}
-
-// x and y, as columns.
-pub fn vectors_plan(uplo: UpLo, x: View, y: View, a: View) -> Plan
-    requires { ⌜ (isVector x ≡ true) × (isVector y ≡ true) ⌝ }
-    ensures { λ r. ⌜ r ≡ vectorsPlan uplo x y a ⌝ }
-{
-    let left = column(x);
-    let right = column(y);
-    Plan {
-        uplo,
-        left: Trans::NoTrans,
-        right: Trans::ConjTrans,
-        a: left,
-        b: right,
-        terms: 1,
-        target: a,
-    }
 }
 
 fn syr_readings(t: Trans) -> Readings
@@ -90,13 +96,21 @@ fn paired_plan(uplo: UpLo, t: Trans, r: Readings, a: View, b: View, c: View) -> 
 {
     let left = r.left;
     let right = r.right;
+    let left_a = op_view(left, a);
+    let right_b = op_view(right, b);
+    let left_b = op_view(left, b);
+    let right_a = op_view(right, a);
+    let left_conj = conjugates(left);
+    let right_conj = conjugates(right);
     let terms = op_cols(t, a);
     Plan {
         uplo,
-        left,
-        right,
-        a,
-        b,
+        left_a,
+        right_b,
+        left_b,
+        right_a,
+        left_conj,
+        right_conj,
         terms,
         target: c,
     }

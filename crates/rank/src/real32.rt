@@ -1,22 +1,24 @@
 // The rank updates of f32.
 
 ghost use mathlib.Core.Path.{_≡_};
-ghost use Prim.Native.Nat.{_<_, _≤_};
+ghost use Prim.Native.Nat.{_<_};
 ghost use Rattle.number.specs.Kind.{real32};
+ghost use Rattle.number.specs.Scaling.{scaleBy32};
+ghost use Rattle.view.specs.Triangle.{inTriangle};
 ghost use Rattle.slab.specs.Elem.{elem, lent};
-ghost use Rattle.blas.specs.Matrix.{op as opOf};
+ghost use Rattle.slab.specs.Update.{row, update};
 ghost use Rattle.blas.specs.Outcome.{Gives};
 ghost use Rattle.blas.specs.Her;
 ghost use Rattle.blas.specs.Her2;
 ghost use Rattle.blas.specs.Her2k;
 ghost use Rattle.blas.specs.Syr2k;
-ghost use Rattle.rank.specs.Tasks.{weigh32, task32};
-ghost use Rattle.rank.specs.Change.{productAt, pairAt, pairsAt, change, changePut, changeStep, changeRow, work, least};
-ghost use Rattle.rank.specs.Ready.{Shows, Readable, Factors, Entry, Ready, ReadyRow, ReadyAt};
+ghost use Rattle.rank.specs.Change.{replaced, reading, addOne, addTwo, pairAt, pairsAt, weighedAt, weighedsAt, syr2kChange, her2kChange};
+ghost use Rattle.rank.specs.Ready.{Shows, One, Two, Entry, Paired};
 use crate::plan::Plan;
+use crate::plan::end_col;
+use crate::plan::first_col;
 use crate::plan::her2k_plan;
 use crate::plan::syr2k_plan;
-use crate::plan::vectors_plan;
 use number::Beta32;
 use number::Real32;
 use slab::get32;
@@ -30,35 +32,10 @@ use view::check_her2;
 use view::check_her2k;
 use view::check_syr2k;
 use view::cols;
-use view::in_triangle;
+use view::column;
 use view::passed;
 use view::place;
 use view::rows;
-
-// What a left factor is multiplied by first: nothing, a real alpha, or alpha.
-pub enum Weight {
-    One,
-    Real(f32),
-    Number(Real32),
-}
-
-// The routine, with its scalars.
-pub enum Task {
-    Her(f32),
-    Her2(Real32),
-    Syr2k(Real32, Beta32),
-    Her2k(Real32, Beta32),
-}
-
-fn weighed(w: Weight, x: Real32) -> Real32
-    ensures { λ r. ⌜ r .0 ≡ weigh32 w (x .0) ⌝ }
-{
-    match w {
-        Weight::One => x,
-        Weight::Real(v) => x.scale_real(v),
-        Weight::Number(alpha) => alpha.mul(x),
-    }
-}
 
 // Element (i, j) of a matrix.
 fn at(s: &[f32], v: View, i: usize, j: usize) -> Real32
@@ -68,41 +45,154 @@ fn at(s: &[f32], v: View, i: usize, j: usize) -> Real32
     get32(s, place(v, i, j))
 }
 
-// Element (i, j) of op(A).
-fn op(t: Trans, s: &[f32], v: View, i: usize, j: usize) -> Real32
-    requires { ⌜ Readable t v (real32 .count (now s)) i j ⌝ }
-    ensures { λ r. ⌜ r .0 ≡ opOf real32 t (elem real32 (now (s .entry)) v) i j ⌝ }
+// The same, conjugated where asked.
+fn read(conj: bool, s: &[f32], v: View, i: usize, j: usize) -> Real32
+    requires { ⌜ Shows v (real32 .count (now s)) i j ⌝ }
+    ensures { λ r. ⌜ r .0 ≡ reading real32 conj (now (s .entry)) v i j ⌝ }
 {
-    match t {
-        Trans::NoTrans => at(s, v, i, j),
-        Trans::Trans => at(s, v, j, i),
-        Trans::ConjTrans => at(s, v, j, i).conj(),
+    let x = at(s, v, i, j);
+    if conj { x.conj() } else { x }
+}
+
+// Element (i, j) of her's target, where w is alpha·xi.
+fn her_entry(w: Real32, x: &[f32], vx: View, a: &mut [f32], va: View, i: usize, j: usize)
+    requires { ⌜ Shows vx (real32 .count (now x)) j 0 × Shows va (real32 .count (now a)) i j ⌝ }
+    ensures { λ _. ⌜ now (a .exit) ≡ replaced real32 va i j (addOne real32 (w .0) (elem real32 (now (x .entry)) vx) j) (now (a .entry)) ⌝ }
+{
+    let k = place(va, i, j);
+    let old = get32(a, k);
+    let term = w.mul(read(true, x, vx, j, 0));
+    put32(a, k, old.add(term));
+}
+
+// Row i of her's target.
+fn her_row(uplo: UpLo, alpha: f32, x: &[f32], vx: View, a: &mut [f32], va: View, i: usize)
+    requires { ⌜ One vx (real32 .count (now x)) va (real32 .count (now a)) × (i < va .rows) ⌝ }
+    ensures { λ _. ⌜ now (a .exit) ≡ row real32 va (inTriangle uplo) (Her.herChange real32 alpha (elem real32 (now (x .entry)) vx)) i (va .cols) (now (a .entry)) ⌝ }
+{
+    let w = at(x, vx, i, 0).scale_real(alpha);
+    let end = end_col(uplo, i, cols(va));
+    let mut j = first_col(uplo, i);
+    while j < end {
+        her_entry(w, x, vx, a, va, i, j);
+        j += 1;
     }
 }
 
-// left(a)(i, p), weighed, times right(b)(p, j).
-fn product(
-    w: Weight,
-    left: Trans,
-    a: &[f32],
+// The whole of her's target; x is a column.
+fn her_rows(uplo: UpLo, alpha: f32, x: &[f32], vx: View, a: &mut [f32], va: View)
+    requires { ⌜ One vx (real32 .count (now x)) va (real32 .count (now a)) ⌝ }
+    ensures { λ _. ⌜ now (a .exit) ≡ update real32 va (inTriangle uplo) (Her.herChange real32 alpha (elem real32 (now (x .entry)) vx)) (now (a .entry)) ⌝ }
+{
+    let m = rows(va);
+    let mut i = 0;
+    while i < m {
+        her_row(uplo, alpha, x, vx, a, va, i);
+        i += 1;
+    }
+}
+
+// Element (i, j) of her2's target, where w is alpha·xi and w2 is conj(alpha)·yi.
+fn her2_entry(
+    w: Real32,
+    w2: Real32,
+    x: &[f32],
+    vx: View,
+    y: &[f32],
+    vy: View,
+    a: &mut [f32],
     va: View,
-    right: Trans,
-    b: &[f32],
-    vb: View,
-    p: usize,
     i: usize,
     j: usize,
-) -> Real32
-    requires { ⌜ Factors left va (real32 .count (now a)) right vb (real32 .count (now b)) p i j ⌝ }
-    ensures { λ r. ⌜ r .0 ≡ productAt real32 (weigh32 w) left (elem real32 (now (a .entry)) va) right (elem real32 (now (b .entry)) vb) i j p ⌝ }
+)
+    requires { ⌜ Shows vx (real32 .count (now x)) j 0 × Shows vy (real32 .count (now y)) j 0 × Shows va (real32 .count (now a)) i j ⌝ }
+    ensures { λ _. ⌜ now (a .exit) ≡ replaced real32 va i j (addTwo real32 (w .0) (w2 .0) (elem real32 (now (x .entry)) vx) (elem real32 (now (y .entry)) vy) j) (now (a .entry)) ⌝ }
 {
-    weighed(w, op(left, a, va, i, p)).mul(op(right, b, vb, p, j))
+    let k = place(va, i, j);
+    let old = get32(a, k);
+    let first = w.mul(read(true, y, vy, j, 0));
+    let second = w2.mul(read(true, x, vx, j, 0));
+    put32(a, k, old.add(first).add(second));
+}
+
+// Row i of her2's target.
+fn her2_row(
+    uplo: UpLo,
+    alpha: Real32,
+    x: &[f32],
+    vx: View,
+    y: &[f32],
+    vy: View,
+    a: &mut [f32],
+    va: View,
+    i: usize,
+)
+    requires { ⌜ Two vx (real32 .count (now x)) vy (real32 .count (now y)) va (real32 .count (now a)) × (i < va .rows) ⌝ }
+    ensures { λ _. ⌜ now (a .exit) ≡ row real32 va (inTriangle uplo) (Her2.her2Change real32 (alpha .0) (elem real32 (now (x .entry)) vx) (elem real32 (now (y .entry)) vy)) i (va .cols) (now (a .entry)) ⌝ }
+{
+    let w = alpha.mul(at(x, vx, i, 0));
+    let conjugate = alpha.conj();
+    let w2 = conjugate.mul(at(y, vy, i, 0));
+    let end = end_col(uplo, i, cols(va));
+    let mut j = first_col(uplo, i);
+    while j < end {
+        her2_entry(w, w2, x, vx, y, vy, a, va, i, j);
+        j += 1;
+    }
+}
+
+// The whole of her2's target; x and y are columns.
+fn her2_rows(
+    uplo: UpLo,
+    alpha: Real32,
+    x: &[f32],
+    vx: View,
+    y: &[f32],
+    vy: View,
+    a: &mut [f32],
+    va: View,
+)
+    requires { ⌜ Two vx (real32 .count (now x)) vy (real32 .count (now y)) va (real32 .count (now a)) ⌝ }
+    ensures { λ _. ⌜ now (a .exit) ≡ update real32 va (inTriangle uplo) (Her2.her2Change real32 (alpha .0) (elem real32 (now (x .entry)) vx) (elem real32 (now (y .entry)) vy)) (now (a .entry)) ⌝ }
+{
+    let m = rows(va);
+    let mut i = 0;
+    while i < m {
+        her2_row(uplo, alpha, x, vx, y, vy, a, va, i);
+        i += 1;
+    }
 }
 
 // A sum, with the two products at p added one after the other.
-fn add_pair(
-    w: Weight,
-    w2: Weight,
+fn add_pair(plan: Plan, a: &[f32], b: &[f32], p: usize, i: usize, j: usize, sum: Real32) -> Real32
+    requires { ⌜ Entry plan (real32 .count (now a)) (real32 .count (now b)) i j × (p < plan .terms) ⌝ }
+    ensures { λ r. ⌜ r .0 ≡ pairAt real32 plan (now (a .entry)) (now (b .entry)) i j p (sum .0) ⌝ }
+{
+    let left = plan.left_conj;
+    let right = plan.right_conj;
+    let first = read(left, a, plan.left_a, i, p).mul(read(right, b, plan.right_b, p, j));
+    let second = read(left, b, plan.left_b, i, p).mul(read(right, a, plan.right_a, p, j));
+    sum.add(first).add(second)
+}
+
+// The sum of all pairs of products for element (i, j).
+fn pair_sum(plan: Plan, a: &[f32], b: &[f32], i: usize, j: usize) -> Real32
+    requires { ⌜ Entry plan (real32 .count (now a)) (real32 .count (now b)) i j ⌝ }
+    ensures { λ r. ⌜ r .0 ≡ pairsAt real32 plan (now (a .entry)) (now (b .entry)) i j (plan .terms) ⌝ }
+{
+    let n = plan.terms;
+    let mut sum = Real32::ZERO;
+    let mut p = 0;
+    while p < n {
+        sum = add_pair(plan, a, b, p, i, j, sum);
+        p += 1;
+    }
+    sum
+}
+
+// The same with the left factors weighed by alpha and by its conjugate.
+fn add_weighed(
+    alpha: Real32,
     plan: Plan,
     a: &[f32],
     b: &[f32],
@@ -112,117 +202,121 @@ fn add_pair(
     sum: Real32,
 ) -> Real32
     requires { ⌜ Entry plan (real32 .count (now a)) (real32 .count (now b)) i j × (p < plan .terms) ⌝ }
-    ensures { λ r. ⌜ r .0 ≡ pairAt real32 (weigh32 w) (weigh32 w2) plan (now (a .entry)) (now (b .entry)) i j p (sum .0) ⌝ }
+    ensures { λ r. ⌜ r .0 ≡ weighedAt real32 plan (now (a .entry)) (now (b .entry)) (alpha .0) i j p (sum .0) ⌝ }
 {
-    let left = plan.left;
-    let right = plan.right;
-    let first = product(w, left, a, plan.a, right, b, plan.b, p, i, j);
-    let second = product(w2, left, b, plan.b, right, a, plan.a, p, i, j);
+    let left = plan.left_conj;
+    let right = plan.right_conj;
+    let x = alpha.mul(read(left, a, plan.left_a, i, p));
+    let y = alpha.conj().mul(read(left, b, plan.left_b, i, p));
+    let first = x.mul(read(right, b, plan.right_b, p, j));
+    let second = y.mul(read(right, a, plan.right_a, p, j));
     sum.add(first).add(second)
 }
 
-// The sum of all pairs of products for element (i, j).
-fn pair_sum(w: Weight, w2: Weight, plan: Plan, a: &[f32], b: &[f32], i: usize, j: usize) -> Real32
+fn weighed_sum(alpha: Real32, plan: Plan, a: &[f32], b: &[f32], i: usize, j: usize) -> Real32
     requires { ⌜ Entry plan (real32 .count (now a)) (real32 .count (now b)) i j ⌝ }
-    ensures { λ r. ⌜ r .0 ≡ pairsAt real32 (weigh32 w) (weigh32 w2) plan (now (a .entry)) (now (b .entry)) i j (plan .terms) ⌝ }
+    ensures { λ r. ⌜ r .0 ≡ weighedsAt real32 plan (now (a .entry)) (now (b .entry)) (alpha .0) i j (plan .terms) ⌝ }
 {
     let n = plan.terms;
     let mut sum = Real32::ZERO;
     let mut p = 0;
     while p < n {
-        sum = add_pair(w, w2, plan, a, b, p, i, j, sum);
+        sum = add_weighed(alpha, plan, a, b, p, i, j, sum);
         p += 1;
     }
     sum
 }
 
-// What becomes of element (i, j), which was `old`.
-fn changed(task: Task, plan: Plan, a: &[f32], b: &[f32], i: usize, j: usize, old: Real32) -> Real32
-    requires { ⌜ Entry plan (real32 .count (now a)) (real32 .count (now b)) i j × (least (task32 task) ≤ plan .terms) ⌝ }
-    ensures { λ r. ⌜ r .0 ≡ change real32 (task32 task) plan (now (a .entry)) (now (b .entry)) i j (old .0) ⌝ }
-{
-    match task {
-        Task::Her(alpha) => {
-            let left = plan.left;
-            let right = plan.right;
-            let term = product(
-                Weight::Real(alpha),
-                left,
-                a,
-                plan.a,
-                right,
-                b,
-                plan.b,
-                0,
-                i,
-                j,
-            );
-            old.add(term)
-        }
-        Task::Her2(alpha) => {
-            let conjugate = alpha.conj();
-            let first = Weight::Number(alpha);
-            let second = Weight::Number(conjugate);
-            add_pair(first, second, plan, a, b, 0, i, j, old)
-        }
-        Task::Syr2k(alpha, beta) => {
-            let sum = pair_sum(Weight::One, Weight::One, plan, a, b, i, j);
-            beta.scale(old).add(alpha.mul(sum))
-        }
-        Task::Her2k(alpha, beta) => {
-            let conjugate = alpha.conj();
-            let first = Weight::Number(alpha);
-            let second = Weight::Number(conjugate);
-            beta.scale(old)
-                .add(pair_sum(first, second, plan, a, b, i, j))
-        }
-    }
-}
-
-// Element (i, j) of the target.
-fn entry(task: Task, plan: Plan, a: &[f32], b: &[f32], c: &mut [f32], i: usize, j: usize)
-    requires { ⌜ ReadyAt plan (least (task32 task)) (real32 .count (now a)) (real32 .count (now b)) (real32 .count (now c)) i j ⌝ }
-    ensures { λ _. ⌜ now (c .exit) ≡ changePut real32 (task32 task) plan (now (a .entry)) (now (b .entry)) i j (now (c .entry)) ⌝ }
+// Element (i, j) of syr2k's target.
+fn syr2k_entry(
+    alpha: Real32,
+    beta: Beta32,
+    plan: Plan,
+    a: &[f32],
+    b: &[f32],
+    c: &mut [f32],
+    i: usize,
+    j: usize,
+)
+    requires { ⌜ Entry plan (real32 .count (now a)) (real32 .count (now b)) i j × Shows (plan .target) (real32 .count (now c)) i j ⌝ }
+    ensures { λ _. ⌜ now (c .exit) ≡ replaced real32 (plan .target) i j (syr2kChange real32 plan (now (a .entry)) (now (b .entry)) (alpha .0) (scaleBy32 beta) i j) (now (c .entry)) ⌝ }
 {
     let k = place(plan.target, i, j);
-    let old = get32(c, k);
-    let new = changed(task, plan, a, b, i, j, old);
-    put32(c, k, new);
+    let old = beta.scale(get32(c, k));
+    let sum = pair_sum(plan, a, b, i, j);
+    put32(c, k, old.add(alpha.mul(sum)));
 }
 
-// Element (i, j) of the target, where it is in the named triangle.
-fn step(task: Task, plan: Plan, a: &[f32], b: &[f32], c: &mut [f32], i: usize, j: usize)
-    requires { ⌜ ReadyAt plan (least (task32 task)) (real32 .count (now a)) (real32 .count (now b)) (real32 .count (now c)) i j ⌝ }
-    ensures { λ _. ⌜ now (c .exit) ≡ changeStep real32 (task32 task) plan (now (a .entry)) (now (b .entry)) i j (now (c .entry)) ⌝ }
+// Row i of syr2k's target.
+fn syr2k_row(alpha: Real32, beta: Beta32, plan: Plan, a: &[f32], b: &[f32], c: &mut [f32], i: usize)
+    requires { ⌜ Paired plan (real32 .count (now a)) (real32 .count (now b)) (real32 .count (now c)) × (i < plan .target .rows) ⌝ }
+    ensures { λ _. ⌜ now (c .exit) ≡ row real32 (plan .target) (inTriangle (plan .uplo)) (syr2kChange real32 plan (now (a .entry)) (now (b .entry)) (alpha .0) (scaleBy32 beta)) i (plan .target .cols) (now (c .entry)) ⌝ }
 {
     let uplo = plan.uplo;
-    if in_triangle(uplo, i, j) {
-        entry(task, plan, a, b, c, i, j);
-    }
-}
-
-// Row i of the target.
-fn row(task: Task, plan: Plan, a: &[f32], b: &[f32], c: &mut [f32], i: usize)
-    requires { ⌜ ReadyRow plan (least (task32 task)) (real32 .count (now a)) (real32 .count (now b)) (real32 .count (now c)) i ⌝ }
-    ensures { λ _. ⌜ now (c .exit) ≡ changeRow real32 (task32 task) plan (now (a .entry)) (now (b .entry)) i (plan .target .cols) (now (c .entry)) ⌝ }
-{
-    let n = cols(plan.target);
-    let mut j = 0;
-    while j < n {
-        step(task, plan, a, b, c, i, j);
+    let end = end_col(uplo, i, cols(plan.target));
+    let mut j = first_col(uplo, i);
+    while j < end {
+        syr2k_entry(alpha, beta, plan, a, b, c, i, j);
         j += 1;
     }
 }
 
-// The whole target.
-fn run(task: Task, plan: Plan, a: &[f32], b: &[f32], c: &mut [f32])
-    requires { ⌜ Ready plan (least (task32 task)) (real32 .count (now a)) (real32 .count (now b)) (real32 .count (now c)) ⌝ }
-    ensures { λ _. ⌜ now (c .exit) ≡ work real32 (task32 task) plan (now (a .entry)) (now (b .entry)) (now (c .entry)) ⌝ }
+// The whole of syr2k's target.
+fn syr2k_rows(alpha: Real32, beta: Beta32, plan: Plan, a: &[f32], b: &[f32], c: &mut [f32])
+    requires { ⌜ Paired plan (real32 .count (now a)) (real32 .count (now b)) (real32 .count (now c)) ⌝ }
+    ensures { λ _. ⌜ now (c .exit) ≡ update real32 (plan .target) (inTriangle (plan .uplo)) (syr2kChange real32 plan (now (a .entry)) (now (b .entry)) (alpha .0) (scaleBy32 beta)) (now (c .entry)) ⌝ }
 {
     let m = rows(plan.target);
     let mut i = 0;
     while i < m {
-        row(task, plan, a, b, c, i);
+        syr2k_row(alpha, beta, plan, a, b, c, i);
+        i += 1;
+    }
+}
+
+// Element (i, j) of her2k's target.
+fn her2k_entry(
+    alpha: Real32,
+    beta: Beta32,
+    plan: Plan,
+    a: &[f32],
+    b: &[f32],
+    c: &mut [f32],
+    i: usize,
+    j: usize,
+)
+    requires { ⌜ Entry plan (real32 .count (now a)) (real32 .count (now b)) i j × Shows (plan .target) (real32 .count (now c)) i j ⌝ }
+    ensures { λ _. ⌜ now (c .exit) ≡ replaced real32 (plan .target) i j (her2kChange real32 plan (now (a .entry)) (now (b .entry)) (alpha .0) (scaleBy32 beta) i j) (now (c .entry)) ⌝ }
+{
+    let k = place(plan.target, i, j);
+    let old = beta.scale(get32(c, k));
+    let sum = weighed_sum(alpha, plan, a, b, i, j);
+    put32(c, k, old.add(sum));
+}
+
+// Row i of her2k's target.
+fn her2k_row(alpha: Real32, beta: Beta32, plan: Plan, a: &[f32], b: &[f32], c: &mut [f32], i: usize)
+    requires { ⌜ Paired plan (real32 .count (now a)) (real32 .count (now b)) (real32 .count (now c)) × (i < plan .target .rows) ⌝ }
+    ensures { λ _. ⌜ now (c .exit) ≡ row real32 (plan .target) (inTriangle (plan .uplo)) (her2kChange real32 plan (now (a .entry)) (now (b .entry)) (alpha .0) (scaleBy32 beta)) i (plan .target .cols) (now (c .entry)) ⌝ }
+{
+    let uplo = plan.uplo;
+    let end = end_col(uplo, i, cols(plan.target));
+    let mut j = first_col(uplo, i);
+    while j < end {
+        her2k_entry(alpha, beta, plan, a, b, c, i, j);
+        j += 1;
+    }
+}
+
+// The whole of her2k's target.
+fn her2k_rows(alpha: Real32, beta: Beta32, plan: Plan, a: &[f32], b: &[f32], c: &mut [f32])
+    requires { ⌜ Paired plan (real32 .count (now a)) (real32 .count (now b)) (real32 .count (now c)) ⌝ }
+    ensures { λ _. ⌜ now (c .exit) ≡ update real32 (plan .target) (inTriangle (plan .uplo)) (her2kChange real32 plan (now (a .entry)) (now (b .entry)) (alpha .0) (scaleBy32 beta)) (now (c .entry)) ⌝ }
+{
+    let m = rows(plan.target);
+    let mut i = 0;
+    while i < m {
+        her2k_row(alpha, beta, plan, a, b, c, i);
         i += 1;
     }
 }
@@ -233,7 +327,7 @@ pub fn her(uplo: UpLo, alpha: f32, x: &[f32], vx: View, a: &mut [f32], va: View)
 {
     let answer = check_her(vx, x.len(), va, a.len());
     if passed(answer) {
-        run(Task::Her(alpha), vectors_plan(uplo, vx, vx, va), x, x, a);
+        her_rows(uplo, alpha, x, column(vx), a, va);
     }
     answer
 }
@@ -253,7 +347,7 @@ pub fn her2(
 {
     let answer = check_her2(vx, x.len(), vy, y.len(), va, a.len());
     if passed(answer) {
-        run(Task::Her2(alpha), vectors_plan(uplo, vx, vy, va), x, y, a);
+        her2_rows(uplo, alpha, x, column(vx), y, column(vy), a, va);
     }
     answer
 }
@@ -275,8 +369,8 @@ pub fn syr2k(
 {
     let answer = check_syr2k(trans, va, a.len(), vb, b.len(), vc, c.len());
     if passed(answer) {
-        let task = Task::Syr2k(alpha, Beta32::judge(beta));
-        run(task, syr2k_plan(uplo, trans, va, vb, vc), a, b, c);
+        let plan = syr2k_plan(uplo, trans, va, vb, vc);
+        syr2k_rows(alpha, Beta32::judge(beta), plan, a, b, c);
     }
     answer
 }
@@ -298,8 +392,8 @@ pub fn her2k(
 {
     let answer = check_her2k(trans, va, a.len(), vb, b.len(), vc, c.len());
     if passed(answer) {
-        let task = Task::Her2k(alpha, Beta32::judge(Real32(beta)));
-        run(task, her2k_plan(uplo, trans, va, vb, vc), a, b, c);
+        let plan = her2k_plan(uplo, trans, va, vb, vc);
+        her2k_rows(alpha, Beta32::judge(Real32(beta)), plan, a, b, c);
     }
     answer
 }

@@ -1,25 +1,46 @@
 use Rattle.number.specs.Kind.{complex}
-use Rattle.rank.proofs.Inside.{first-factors, second-factors}
-use Rattle.rank.proofs.Laws.{two-added}
-use borrow.Author.Needs.{needs}
+use Rattle.rank.proofs.Inside.{left-a-shows, right-b-shows, left-b-shows, right-a-shows}
+use Rattle.rank.proofs.Laws.{more, twice}
 use Rattle.rank.proofs.complex.add_pair.Statement.{statement}
 use Rattle.rank.proofs.complex.add_pair.Tie as tie
 
-product-requires : tie.Need-product-requires
-product-requires c κs = first-factors _ _ _ _ _ (c .before .before .pre .0) _ (c .before .before .pre .1)
+read-requires : tie.Need-read-requires
+read-requires c κs = left-a-shows _ _ _ _ _ (c .before .before .pre .0) _ (c .before .before .pre .1)
 
-product-requires-2 : tie.Need-product-requires-2
-product-requires-2 c κs = second-factors _ _ _ _ _ (c .before .before .before .pre .0) _ (c .before .before .before .pre .1)
+read-requires-2 : tie.Need-read-requires-2
+read-requires-2 c κs = right-b-shows _ _ _ _ _ (c .before .before .before .pre .0) _ (c .before .before .before .pre .1)
+
+mul-requires : tie.Need-mul-requires
+mul-requires c κs = tt
+
+read-requires-3 : tie.Need-read-requires-3
+read-requires-3 c κs = left-b-shows _ _ _ _ _ (c .before .before .before .before .before .pre .0) _ (c .before .before .before .before .before .pre .1)
+
+read-requires-4 : tie.Need-read-requires-4
+read-requires-4 c κs = right-a-shows _ _ _ _ _ (c .before .before .before .before .before .before .pre .0) _ (c .before .before .before .before .before .before .pre .1)
+
+mul-requires-2 : tie.Need-mul-requires-2
+mul-requires-2 c κs = tt
 
 add-requires : tie.Need-add-requires
-add-requires c κs = search needs
+add-requires c κs = tt
 
 add-requires-2 : tie.Need-add-requires-2
-add-requires-2 c κs = search needs
+add-requires-2 c κs = tt
 
 returns : tie.Need-returns
-returns c = two-added complex _ _ _ _ _ _ _ (c .before .before .before .product .ensures) (c .before .before .product2 .ensures) (c .before .add .ensures) (c .add2 .ensures)
+returns c = twice complex _ _ _ _ _ _ _ _ _ (more complex _ _ _ _ _ _ _ (c .before .before .before .before .before .before .before .read .ensures) (c .before .before .before .before .before .before .read2 .ensures) (c .before .before .before .before .before .mul .ensures) (c .before .add .ensures)) (c .before .before .before .before .read3 .ensures) (c .before .before .before .read4 .ensures) (c .before .before .mul2 .ensures) (c .add2 .ensures)
 
 pub add-pair-spec : {M : Type 1} → statement M
 add-pair-spec =
-    tie.close (tie.spec product-requires product-requires-2 add-requires add-requires-2 returns)
+    tie.close
+    (tie.spec
+    read-requires
+    read-requires-2
+    mul-requires
+    read-requires-3
+    read-requires-4
+    mul-requires-2
+    add-requires
+    add-requires-2
+    returns)

@@ -13,4 +13,9 @@ returns : tie.Need-returns
 returns c = cc
 
 pub at-spec : {M : Type 1} → statement M
-at-spec = tie.close (tie.spec place-requires get-complex-requires returns)
+at-spec =
+    tie.close
+    (tie.spec
+    place-requires
+    get-complex-requires
+    returns)

@@ -1,12 +1,11 @@
-use borrow.Author.Needs.{needs}
 use Rattle.rank.proofs.plan.her2k_plan.Statement.{statement}
 use Rattle.rank.proofs.plan.her2k_plan.Tie as tie
 
 her-readings-requires : tie.Need-her-readings-requires
-her-readings-requires c κs = search needs
+her-readings-requires c κs = tt
 
 paired-plan-requires : tie.Need-paired-plan-requires
-paired-plan-requires c κs = search needs
+paired-plan-requires c κs = tt
 
 returns : tie.Need-returns
 returns c = rw (c .paired-plan .ensures) (rw (c .before .her-readings .ensures))

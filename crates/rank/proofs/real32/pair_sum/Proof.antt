@@ -1,20 +1,19 @@
 use Prim.Native.Nat.{_≤_, _-_}
-use native.Mathlib.Omega.{arith}
 use mathlib.Core.Path.{_≡_, sym, _∙_}
+use native.Mathlib.Omega.{arith}
 use lib.Ieee.{binary32}
 use Rattle.number.specs.Kind.{real32}
 use Rattle.number.proofs.Literals.{zero-literal}
 use Rattle.blas.proofs.SumLaws.{pair-start, pair-next, pair-end}
-use Rattle.rank.specs.Tasks.{weigh32}
 use Rattle.rank.specs.Change.{pairsAt}
 use Rattle.rank.proofs.real32.pair_sum.Statement.{statement}
 use Rattle.rank.proofs.real32.pair_sum.Tie as tie
 
 abbrev Inv-loop : tie.InvT-loop
-Inv-loop w w2 plan a b i j n sum₀ p₀ sum p = (p ≤ n) × (sum .0 ≡ pairsAt real32 (weigh32 w) (weigh32 w2) plan a b i j p)
+Inv-loop plan a b i j n sum₀ p₀ sum p = (p ≤ n) × (sum .0 ≡ pairsAt real32 plan a b i j p)
 
 abbrev μ-loop : tie.MeasureT-loop
-μ-loop w w2 plan a b i j n sum₀ p₀ sum p = n - p
+μ-loop plan a b i j n sum₀ p₀ sum p = n - p
 
 loop-holds : tie.Need-loop-holds Inv-loop μ-loop
 loop-holds c = (omega arith, zero-literal binary32 ∙ sym (pair-start real32 _ _))
@@ -37,4 +36,12 @@ returns c = pair-end real32 _ _ _ _ _ (c .before .loop .inv .0) (omega arith) (c
 pub pair-sum-spec : {M : Type 1} → statement M
 pair-sum-spec =
     tie.close
-    (tie.spec Inv-loop μ-loop loop-holds add-pair-requires add-p loop-less loop-again returns)
+    (tie.spec
+    Inv-loop
+    μ-loop
+    loop-holds
+    add-pair-requires
+    add-p
+    loop-less
+    loop-again
+    returns)

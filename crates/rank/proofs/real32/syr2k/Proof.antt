@@ -1,35 +1,32 @@
-use denote.Ref.{now}
 use mathlib.Core.Path.{ap, _∙_}
+use borrow.Author.Needs.{needs}
 use Rattle.number.specs.Kind.{real32}
 use Rattle.number.specs.Scaling.{scaleBy32}
 use Rattle.number.proofs.ScalingLaws.{scale32}
-use Rattle.slab.specs.Elem.{lent}
-use Rattle.rank.specs.Change.{Syr2k}
 use Rattle.rank.proofs.Kernels.{syr2k-runs, syr2k-done, syr2k-refused}
-use borrow.Author.Needs.{needs}
 use Rattle.rank.proofs.real32.syr2k.Statement.{statement}
 use Rattle.rank.proofs.real32.syr2k.Tie as tie
 
 check-syr2k-requires : tie.Need-check-syr2k-requires
-check-syr2k-requires c κs = search needs
+check-syr2k-requires c κs = tt
 
 passed-requires : tie.Need-passed-requires
-passed-requires c κs = search needs
-
-judge-requires : tie.Need-judge-requires
-judge-requires c κs = search needs
+passed-requires c κs = tt
 
 syr2k-plan-requires : tie.Need-syr2k-plan-requires
-syr2k-plan-requires c κs = search needs
+syr2k-plan-requires c κs = tt
 
-run-requires : tie.Need-run-requires
-run-requires c κs = syr2k-runs _ _ _ _ _ _ _ _ _ _ (c .before .before .before .before .before .check-syr2k .ensures) (c .before .before .before .before .passed .ensures) (c .before .before .before .if1 .taken) _ (c .before .syr2k-plan .ensures)
+judge-requires : tie.Need-judge-requires
+judge-requires c κs = tt
+
+syr2k-rows-requires : tie.Need-syr2k-rows-requires
+syr2k-rows-requires c κs = syr2k-runs _ _ _ _ _ _ _ _ _ _ (c .before .before .before .before .before .check-syr2k .ensures) (c .before .before .before .before .passed .ensures) (c .before .before .before .if1 .taken) _ (c .before .before .syr2k-plan .ensures)
 
 same-length : tie.Need-same-length
 same-length c = search needs
 
 returns : tie.Need-returns
-returns c = let p = c .before .before .before .before .before .before .before .before .before .before .before .before .args in syr2k-done real32 (p .uplo) (p .trans) (p .alpha .0) (lent real32 (now (p .a)) (p .va)) (lent real32 (now (p .b)) (p .vb)) (p .beta .0) (lent real32 (now (p .c)) (p .vc)) _ _ (c .before .before .before .before .before .before .before .before .check-syr2k .ensures) (c .before .before .before .before .before .before .before .passed .ensures) (c .before .before .before .before .before .before .if1 .taken) _ _ _ (c .before .before .run .ensures) (ap (Syr2k (p .alpha .0)) (ap scaleBy32 (c .before .before .before .before .before .judge .ensures) ∙ scale32 _)) (c .before .before .before .before .syr2k-plan .ensures)
+returns c = syr2k-done real32 _ _ _ _ _ _ _ _ _ (c .before .before .before .before .before .before .before .before .check-syr2k .ensures) (c .before .before .before .before .before .before .before .passed .ensures) (c .before .before .before .before .before .before .if1 .taken) _ _ _ (ap scaleBy32 (c .before .before .before .before .judge .ensures) ∙ scale32 _) (c .before .before .before .before .before .syr2k-plan .ensures) (c .before .before .syr2k-rows .ensures)
 
 returns-2 : tie.Need-returns-2
 returns-2 c = syr2k-refused real32 _ _ _ _ _ _ _ _ _ (c .before .before .check-syr2k .ensures) (c .before .passed .ensures) (c .if1 .left)
@@ -40,9 +37,9 @@ syr2k-spec =
     (tie.spec
     check-syr2k-requires
     passed-requires
-    judge-requires
     syr2k-plan-requires
-    run-requires
+    judge-requires
+    syr2k-rows-requires
     same-length
     returns
     returns-2)

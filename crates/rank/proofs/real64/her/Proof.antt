@@ -1,26 +1,26 @@
-use Rattle.number.specs.Kind.{real64}
-use Rattle.rank.proofs.Kernels.{her-vectors, her-runs, her-done, her-refused}
 use borrow.Author.Needs.{needs}
+use Rattle.number.specs.Kind.{real64}
+use Rattle.rank.proofs.Kernels.{her-vector, her-runs, her-done, her-refused}
 use Rattle.rank.proofs.real64.her.Statement.{statement}
 use Rattle.rank.proofs.real64.her.Tie as tie
 
 check-her-requires : tie.Need-check-her-requires
-check-her-requires c κs = search needs
+check-her-requires c κs = tt
 
 passed-requires : tie.Need-passed-requires
-passed-requires c κs = search needs
+passed-requires c κs = tt
 
-vectors-plan-requires : tie.Need-vectors-plan-requires
-vectors-plan-requires c κs = her-vectors _ _ _ _ _ _ (c .before .before .check-her .ensures) (c .before .passed .ensures) (c .if1 .taken)
+column-requires : tie.Need-column-requires
+column-requires c κs = her-vector _ _ _ _ _ _ (c .before .before .check-her .ensures) (c .before .passed .ensures) (c .if1 .taken)
 
-run-requires : tie.Need-run-requires
-run-requires c κs = her-runs _ _ _ _ _ _ (c .before .before .before .before .check-her .ensures) (c .before .before .before .passed .ensures) (c .before .before .if1 .taken) _ _ (c .before .vectors-plan .ensures)
+her-rows-requires : tie.Need-her-rows-requires
+her-rows-requires c κs = her-runs _ _ _ _ _ _ (c .before .before .before .before .check-her .ensures) (c .before .before .before .passed .ensures) (c .before .before .if1 .taken) _ (c .before .column .ensures)
 
 same-length : tie.Need-same-length
 same-length c = search needs
 
 returns : tie.Need-returns
-returns c = her-done real64 _ _ _ _ _ _ (c .before .before .before .before .before .before .before .check-her .ensures) (c .before .before .before .before .before .before .passed .ensures) (c .before .before .before .before .before .if1 .taken) _ _ (c .before .before .before .before .vectors-plan .ensures) (c .before .before .run .ensures)
+returns c = her-done real64 _ _ _ _ _ _ (c .before .before .before .before .before .before .before .check-her .ensures) (c .before .before .before .before .before .before .passed .ensures) (c .before .before .before .before .before .if1 .taken) _ _ (c .before .before .before .before .column .ensures) (c .before .before .her-rows .ensures)
 
 returns-2 : tie.Need-returns-2
 returns-2 c = her-refused real64 _ _ _ _ _ _ (c .before .before .check-her .ensures) (c .before .passed .ensures) (c .if1 .left)
@@ -31,8 +31,8 @@ her-spec =
     (tie.spec
     check-her-requires
     passed-requires
-    vectors-plan-requires
-    run-requires
+    column-requires
+    her-rows-requires
     same-length
     returns
     returns-2)

@@ -1,26 +1,29 @@
+use borrow.Author.Needs.{needs}
 use Rattle.number.specs.Kind.{real64}
 use Rattle.rank.proofs.Kernels.{her2-vectors, her2-runs, her2-done, her2-refused}
-use borrow.Author.Needs.{needs}
 use Rattle.rank.proofs.real64.her2.Statement.{statement}
 use Rattle.rank.proofs.real64.her2.Tie as tie
 
 check-her2-requires : tie.Need-check-her2-requires
-check-her2-requires c κs = search needs
+check-her2-requires c κs = tt
 
 passed-requires : tie.Need-passed-requires
-passed-requires c κs = search needs
+passed-requires c κs = tt
 
-vectors-plan-requires : tie.Need-vectors-plan-requires
-vectors-plan-requires c κs = her2-vectors _ _ _ _ _ _ _ _ (c .before .before .check-her2 .ensures) (c .before .passed .ensures) (c .if1 .taken)
+column-requires : tie.Need-column-requires
+column-requires c κs = her2-vectors _ _ _ _ _ _ _ _ (c .before .before .check-her2 .ensures) (c .before .passed .ensures) (c .if1 .taken) .0
 
-run-requires : tie.Need-run-requires
-run-requires c κs = her2-runs _ _ _ _ _ _ _ _ (c .before .before .before .before .check-her2 .ensures) (c .before .before .before .passed .ensures) (c .before .before .if1 .taken) _ _ (c .before .vectors-plan .ensures)
+column-requires-2 : tie.Need-column-requires-2
+column-requires-2 c κs = her2-vectors _ _ _ _ _ _ _ _ (c .before .before .before .check-her2 .ensures) (c .before .before .passed .ensures) (c .before .if1 .taken) .1
+
+her2-rows-requires : tie.Need-her2-rows-requires
+her2-rows-requires c κs = her2-runs _ _ _ _ _ _ _ _ (c .before .before .before .before .before .check-her2 .ensures) (c .before .before .before .before .passed .ensures) (c .before .before .before .if1 .taken) _ _ (c .before .before .column .ensures) (c .before .column2 .ensures)
 
 same-length : tie.Need-same-length
 same-length c = search needs
 
 returns : tie.Need-returns
-returns c = her2-done real64 _ _ _ _ _ _ _ (c .before .before .before .before .before .before .before .check-her2 .ensures) (c .before .before .before .before .before .before .passed .ensures) (c .before .before .before .before .before .if1 .taken) _ _ (c .before .before .before .before .vectors-plan .ensures) (c .before .before .run .ensures)
+returns c = her2-done real64 _ _ _ _ _ _ _ (c .before .before .before .before .before .before .before .before .check-her2 .ensures) (c .before .before .before .before .before .before .before .passed .ensures) (c .before .before .before .before .before .before .if1 .taken) _ _ _ (c .before .before .before .before .before .column .ensures) (c .before .before .before .before .column2 .ensures) (c .before .before .her2-rows .ensures)
 
 returns-2 : tie.Need-returns-2
 returns-2 c = her2-refused real64 _ _ _ _ _ _ _ (c .before .before .check-her2 .ensures) (c .before .passed .ensures) (c .if1 .left)
@@ -31,8 +34,9 @@ her2-spec =
     (tie.spec
     check-her2-requires
     passed-requires
-    vectors-plan-requires
-    run-requires
+    column-requires
+    column-requires-2
+    her2-rows-requires
     same-length
     returns
     returns-2)

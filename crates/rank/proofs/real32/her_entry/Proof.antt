@@ -1,0 +1,48 @@
+use mathlib.Core.Path.{refl}
+use native.Mathlib.Omega.{arith}
+use denote.Ref.{now}
+use borrow.Author.Needs.{needs}
+use Rattle.number.specs.Kind.{real32}
+use Rattle.slab.specs.Elem.{elem}
+use Rattle.rank.specs.Change.{addOne}
+use Rattle.rank.proofs.Inside.{shown, inside}
+use Rattle.rank.proofs.Laws.{put-replaced, more}
+use Rattle.rank.proofs.real32.her_entry.Statement.{statement}
+use Rattle.rank.proofs.real32.her_entry.Tie as tie
+
+place-requires : tie.Need-place-requires
+place-requires c κs = shown _ _ _ _ (c .before .before .pre .1) (omega arith)
+
+get32-requires : tie.Need-get32-requires
+get32-requires c κs = inside _ _ _ _ (c .before .before .before .before .pre .1) _ (c .before .place .ensures)
+
+read-requires : tie.Need-read-requires
+read-requires c κs = search needs
+
+mul-requires : tie.Need-mul-requires
+mul-requires c κs = tt
+
+add-requires : tie.Need-add-requires
+add-requires c κs = tt
+
+put32-requires : tie.Need-put32-requires
+put32-requires c κs = inside _ _ _ _ (c .before .before .before .before .before .before .before .before .before .pre .1) _ (c .before .before .before .before .before .before .place .ensures)
+
+same-length : tie.Need-same-length
+same-length c = search needs
+
+returns : tie.Need-returns
+returns c = let p = c .before .before .before .before .before .before .before .before .before .before .before .before .args in put-replaced real32 (p .va) (p .i) (p .j) (addOne real32 (p .w .0) (elem real32 (now (p .x)) (p .vx)) (p .j)) (now (p .a)) _ _ _ _ (c .before .before .before .before .before .before .before .before .before .place .ensures) (c .before .before .before .before .before .before .before .get32 .ensures) (more real32 _ _ _ _ _ _ _ refl (c .before .before .before .before .before .before .read .ensures) (c .before .before .before .before .before .mul .ensures) (c .before .before .before .add .ensures)) (c .before .before .put32 .ensures)
+
+pub her-entry-spec : {M : Type 1} → statement M
+her-entry-spec =
+    tie.close
+    (tie.spec
+    place-requires
+    get32-requires
+    read-requires
+    mul-requires
+    add-requires
+    put32-requires
+    same-length
+    returns)

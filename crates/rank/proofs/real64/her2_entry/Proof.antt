@@ -1,0 +1,60 @@
+use mathlib.Core.Path.{refl}
+use native.Mathlib.Omega.{arith}
+use denote.Ref.{now}
+use borrow.Author.Needs.{needs}
+use Rattle.number.specs.Kind.{real64}
+use Rattle.slab.specs.Elem.{elem}
+use Rattle.rank.specs.Change.{addTwo}
+use Rattle.rank.proofs.Inside.{shown, inside}
+use Rattle.rank.proofs.Laws.{put-replaced, more, twice}
+use Rattle.rank.proofs.real64.her2_entry.Statement.{statement}
+use Rattle.rank.proofs.real64.her2_entry.Tie as tie
+
+place-requires : tie.Need-place-requires
+place-requires c κs = shown _ _ _ _ (c .before .before .before .pre .2) (omega arith)
+
+get64-requires : tie.Need-get64-requires
+get64-requires c κs = inside _ _ _ _ (c .before .before .before .before .before .pre .2) _ (c .before .place .ensures)
+
+read-requires : tie.Need-read-requires
+read-requires c κs = search needs
+
+mul-requires : tie.Need-mul-requires
+mul-requires c κs = tt
+
+read-requires-2 : tie.Need-read-requires-2
+read-requires-2 c κs = search needs
+
+mul-requires-2 : tie.Need-mul-requires-2
+mul-requires-2 c κs = tt
+
+add-requires : tie.Need-add-requires
+add-requires c κs = tt
+
+add-requires-2 : tie.Need-add-requires-2
+add-requires-2 c κs = tt
+
+put64-requires : tie.Need-put64-requires
+put64-requires c κs = inside _ _ _ _ (c .before .before .before .before .before .before .before .before .before .before .before .before .before .pre .2) _ (c .before .before .before .before .before .before .before .before .before .place .ensures)
+
+same-length : tie.Need-same-length
+same-length c = search needs
+
+returns : tie.Need-returns
+returns c = let p = c .before .before .before .before .before .before .before .before .before .before .before .before .before .before .before .before .args in put-replaced real64 (p .va) (p .i) (p .j) (addTwo real64 (p .w .0) (p .w2 .0) (elem real64 (now (p .x)) (p .vx)) (elem real64 (now (p .y)) (p .vy)) (p .j)) (now (p .a)) _ _ _ _ (c .before .before .before .before .before .before .before .before .before .before .before .before .place .ensures) (c .before .before .before .before .before .before .before .before .before .before .get64 .ensures) (twice real64 _ _ _ _ _ _ _ _ _ (more real64 _ _ _ _ _ _ _ refl (c .before .before .before .before .before .before .before .before .before .read .ensures) (c .before .before .before .before .before .before .before .before .mul .ensures) (c .before .before .before .before .add .ensures)) refl (c .before .before .before .before .before .before .before .read2 .ensures) (c .before .before .before .before .before .before .mul2 .ensures) (c .before .before .before .add2 .ensures)) (c .before .before .put64 .ensures)
+
+pub her2-entry-spec : {M : Type 1} → statement M
+her2-entry-spec =
+    tie.close
+    (tie.spec
+    place-requires
+    get64-requires
+    read-requires
+    mul-requires
+    read-requires-2
+    mul-requires-2
+    add-requires
+    add-requires-2
+    put64-requires
+    same-length
+    returns)

@@ -1,0 +1,75 @@
+use Prim.Native.Nat.{_≤_, _-_}
+use mathlib.Core.Path.{_≡_, refl, ap, _∙_}
+use native.Mathlib.Omega.{arith}
+use lib.ListN.{length}
+use denote.Ref.{now}
+use Rattle.number.specs.Kind.{real64}
+use Rattle.slab.specs.Elem.{elem}
+use Rattle.blas.specs.Her.{herChange}
+use Rattle.rank.specs.Change.{addOne}
+use Rattle.rank.proofs.Inside.{column-shows, one-shows}
+use Rattle.rank.proofs.Rows.{span, span-start, span-next, span-last, row-lt, begins, column-lt}
+use Rattle.rank.proofs.Laws.{her-same}
+use Rattle.rank.proofs.real64.her_row.Statement.{statement}
+use Rattle.rank.proofs.real64.her_row.Tie as tie
+
+abbrev Inv-loop : tie.InvT-loop
+Inv-loop alpha x vx a₀ va i w end j₀ a j = (j₀ ≤ j) × (j ≤ end) × (length a ≡ length a₀) × (a ≡ span real64 va (λ r k. addOne real64 (w .0) (elem real64 x vx) k) i j₀ j a₀)
+
+abbrev μ-loop : tie.MeasureT-loop
+μ-loop alpha x vx a₀ va i w end j₀ a j = end - j
+
+at-requires : tie.Need-at-requires Inv-loop μ-loop
+at-requires c κs = column-shows _ _ _ (c .before .before .pre .0 .x) _ (c .before .before .pre .1)
+
+scale-real-requires : tie.Need-scale-real-requires Inv-loop μ-loop
+scale-real-requires c κs = tt
+
+cols-requires : tie.Need-cols-requires Inv-loop μ-loop
+cols-requires c κs = tt
+
+end-col-requires : tie.Need-end-col-requires Inv-loop μ-loop
+end-col-requires c κs = row-lt _ _ (c .before .before .before .before .before .pre .0 .target) _ (c .before .before .before .before .before .pre .1) _ (c .cols .ensures)
+
+first-col-requires : tie.Need-first-col-requires Inv-loop μ-loop
+first-col-requires c κs = tt
+
+loop-holds : tie.Need-loop-holds Inv-loop μ-loop
+loop-holds c = let p = c .before .before .before .before .before .before .before .args in (omega arith, begins _ _ (c .before .before .before .before .before .before .before .pre .0 .target) _ (c .before .before .before .before .before .before .before .pre .1) _ (c .before .before .cols .ensures) (p .uplo) _ _ (c .before .end-col .ensures) (c .first-col .ensures), refl, span-start real64 _ _ _ _ _)
+
+her-entry-requires : tie.Need-her-entry-requires Inv-loop μ-loop
+her-entry-requires c κs = let p = c .before .before .before .before .before .before .before .before .before .before .args in one-shows _ _ _ _ _ (c .before .before .loop .inv .2) (c .before .before .before .before .before .before .before .before .before .before .pre .0) _ _ (c .before .before .before .before .before .before .before .before .before .before .pre .1) (column-lt _ _ (c .before .before .before .before .before .before .before .before .before .before .pre .0 .target) _ (c .before .before .before .before .before .before .before .before .before .before .pre .1) _ (c .before .before .before .before .before .cols .ensures) (p .uplo) _ _ (c .before .before .before .before .end-col .ensures) (omega arith))
+
+add-j : tie.Need-add-j Inv-loop μ-loop
+add-j c = omega arith
+
+loop-less : tie.Need-loop-less Inv-loop μ-loop
+loop-less c = omega arith
+
+loop-again : tie.Need-loop-again Inv-loop μ-loop
+loop-again c = (omega arith, omega arith, c .before .before .her-entry .kept .1 .1 .1 .0 ∙ c .before .before .before .before .before .loop .inv .2, span-next real64 _ _ _ _ _ _ _ _ (c .before .before .before .before .before .loop .inv .0) (c .before .before .before .before .before .loop .inv .3) (c .before .before .her-entry .ensures))
+
+same-length : tie.Need-same-length Inv-loop μ-loop
+same-length c = c .before .loop .inv .2
+
+returns : tie.Need-returns Inv-loop μ-loop
+returns c = let p = c .before .before .before .before .before .before .before .before .before .args in span-last real64 (p .va) (p .i) (p .uplo) (λ r k. addOne real64 (c .before .before .before .before .before .scale-real .result .0) (elem real64 (now (p .x)) (p .vx)) k) (herChange real64 (p .alpha) (elem real64 (now (p .x)) (p .vx))) _ _ _ _ _ _ (c .before .before .before .before .cols .ensures) (c .before .before .first-col .ensures) (c .before .before .before .end-col .ensures) (row-lt _ _ (c .before .before .before .before .before .before .before .before .before .pre .0 .target) _ (c .before .before .before .before .before .before .before .before .before .pre .1) _ (c .before .before .before .before .cols .ensures)) (c .before .loop .inv .1) (omega arith) (c .before .loop .inv .3) (her-same real64 (p .alpha) (elem real64 (now (p .x)) (p .vx)) (p .i) _ (c .before .before .before .before .before .scale-real .ensures ∙ ap (real64 .scaleReal (p .alpha)) (c .before .before .before .before .before .before .at .ensures)))
+
+pub her-row-spec : {M : Type 1} → statement M
+her-row-spec =
+    tie.close
+    (tie.spec
+    Inv-loop
+    μ-loop
+    at-requires
+    scale-real-requires
+    cols-requires
+    end-col-requires
+    first-col-requires
+    loop-holds
+    her-entry-requires
+    add-j
+    loop-less
+    loop-again
+    same-length
+    returns)
