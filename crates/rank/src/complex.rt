@@ -5,22 +5,23 @@ ghost use Prim.Native.Nat.{_<_};
 ghost use Rattle.number.specs.Kind.{complex};
 ghost use Rattle.number.specs.Scaling.{scaleByComplex};
 ghost use Rattle.view.specs.Triangle.{inTriangle};
-ghost use Rattle.slab.specs.Elem.{elem, lent};
+ghost use Rattle.slab.specs.Elem.{elem, lent, Shows};
 ghost use Rattle.slab.specs.Update.{row, update};
 ghost use Rattle.blas.specs.Outcome.{Gives};
 ghost use Rattle.blas.specs.Her;
 ghost use Rattle.blas.specs.Her2;
 ghost use Rattle.blas.specs.Her2k;
 ghost use Rattle.blas.specs.Syr2k;
-ghost use Rattle.rank.specs.Change.{replaced, reading, addOne, addTwo, pairAt, pairsAt, weighedAt, weighedsAt, syr2kChange, her2kChange};
-ghost use Rattle.rank.specs.Ready.{Shows, One, Two, Entry, Paired};
-use crate::plan::Plan;
-use crate::plan::end_col;
-use crate::plan::first_col;
-use crate::plan::her2k_plan;
-use crate::plan::syr2k_plan;
+ghost use Rattle.rank_plan.specs.Change.{replaced, reading, addOne, addTwo, pairAt, pairsAt, weighedAt, weighedsAt, syr2kChange, her2kChange};
+ghost use Rattle.rank_plan.specs.Ready.{One, Two, Entry, Paired};
 use number::BetaComplex;
 use number::Complex;
+use rank_plan::Plan;
+use rank_plan::end_col;
+use rank_plan::first_col;
+use rank_plan::her2k_plan;
+use rank_plan::syr2k_plan;
+use slab::elem_complex;
 use slab::get_complex;
 use slab::put_complex;
 use view::Answer;
@@ -37,20 +38,12 @@ use view::passed;
 use view::place;
 use view::rows;
 
-// Element (i, j) of a matrix.
-fn at(s: &[f64], v: View, i: usize, j: usize) -> Complex
-    requires { ⌜ Shows v (complex .count (now s)) i j ⌝ }
-    ensures { λ r. ⌜ r ≡ elem complex (now (s .entry)) v i j ⌝ }
-{
-    get_complex(s, place(v, i, j))
-}
-
-// The same, conjugated where asked.
+// Element (i, j) of a matrix, conjugated where asked.
 fn read(conj: bool, s: &[f64], v: View, i: usize, j: usize) -> Complex
     requires { ⌜ Shows v (complex .count (now s)) i j ⌝ }
     ensures { λ r. ⌜ r ≡ reading complex conj (now (s .entry)) v i j ⌝ }
 {
-    let x = at(s, v, i, j);
+    let x = elem_complex(s, v, i, j);
     if conj { x.conj() } else { x }
 }
 
@@ -70,7 +63,7 @@ fn her_row(uplo: UpLo, alpha: f64, x: &[f64], vx: View, a: &mut [f64], va: View,
     requires { ⌜ One vx (complex .count (now x)) va (complex .count (now a)) × (i < va .rows) ⌝ }
     ensures { λ _. ⌜ now (a .exit) ≡ row complex va (inTriangle uplo) (Her.herChange complex alpha (elem complex (now (x .entry)) vx)) i (va .cols) (now (a .entry)) ⌝ }
 {
-    let w = at(x, vx, i, 0).scale_real(alpha);
+    let w = elem_complex(x, vx, i, 0).scale_real(alpha);
     let end = end_col(uplo, i, cols(va));
     let mut j = first_col(uplo, i);
     while j < end {
@@ -130,9 +123,9 @@ fn her2_row(
     requires { ⌜ Two vx (complex .count (now x)) vy (complex .count (now y)) va (complex .count (now a)) × (i < va .rows) ⌝ }
     ensures { λ _. ⌜ now (a .exit) ≡ row complex va (inTriangle uplo) (Her2.her2Change complex alpha (elem complex (now (x .entry)) vx) (elem complex (now (y .entry)) vy)) i (va .cols) (now (a .entry)) ⌝ }
 {
-    let w = alpha.mul(at(x, vx, i, 0));
+    let w = alpha.mul(elem_complex(x, vx, i, 0));
     let conjugate = alpha.conj();
-    let w2 = conjugate.mul(at(y, vy, i, 0));
+    let w2 = conjugate.mul(elem_complex(y, vy, i, 0));
     let end = end_col(uplo, i, cols(va));
     let mut j = first_col(uplo, i);
     while j < end {
@@ -213,6 +206,7 @@ fn add_weighed(
     sum.add(first).add(second)
 }
 
+// The sum of all of them.
 fn weighed_sum(alpha: Complex, plan: Plan, a: &[f64], b: &[f64], i: usize, j: usize) -> Complex
     requires { ⌜ Entry plan (complex .count (now a)) (complex .count (now b)) i j ⌝ }
     ensures { λ r. ⌜ r ≡ weighedsAt complex plan (now (a .entry)) (now (b .entry)) alpha i j (plan .terms) ⌝ }

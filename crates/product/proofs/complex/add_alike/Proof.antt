@@ -1,7 +1,7 @@
 use mathlib.Core.Path.{_∙_}
 use denote.Ref.{now}
 use Rattle.number.specs.Kind.{complex}
-use Rattle.product.proofs.RunLaws.{alike-spans, alike-more}
+use Rattle.product_plan.proofs.RunLaws.{alike-spans, alike-more}
 use Rattle.product.proofs.complex.add_alike.Statement.{statement}
 use Rattle.product.proofs.complex.add_alike.Tie as tie
 

@@ -3,8 +3,8 @@ use mathlib.Core.Path.{_≡_, refl}
 use native.Mathlib.Omega.{arith}
 use denote.Ref.{now}
 use Rattle.number.specs.Kind.{complex}
-use Rattle.product.specs.Runs.{more, plain}
-use Rattle.product.proofs.RunLaws.{more-start, more-end, more-next}
+use Rattle.product_plan.specs.Runs.{more, plain}
+use Rattle.product_plan.proofs.RunLaws.{more-start, more-end, more-next}
 use Rattle.product.proofs.complex.add_run.Statement.{statement}
 use Rattle.product.proofs.complex.add_run.Tie as tie
 

@@ -3,7 +3,7 @@ use lib.Ieee.{binary64}
 use Rattle.number.proofs.Literals.{zero-literal}
 use Rattle.number.specs.Kind.{complex}
 use Rattle.blas.proofs.SumLaws.{sum-start}
-use Rattle.product.proofs.RunLaws.{straight-alike, sum-whole}
+use Rattle.product_plan.proofs.RunLaws.{straight-alike, sum-whole}
 use Rattle.product.proofs.complex.dot.Statement.{statement}
 use Rattle.product.proofs.complex.dot.Tie as tie
 

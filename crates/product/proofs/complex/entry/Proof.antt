@@ -3,7 +3,7 @@ use denote.Ref.{now}
 use borrow.Author.Needs.{needs}
 use Rattle.number.specs.Scaling.{scaleByComplex, times}
 use Rattle.number.specs.Kind.{complex}
-use Rattle.product.proofs.Laws.{target-shown, target-inside, entry-put}
+use Rattle.product_plan.proofs.Laws.{target-shown, target-inside, entry-put}
 use Rattle.product.proofs.complex.entry.Statement.{statement}
 use Rattle.product.proofs.complex.entry.Tie as tie
 

@@ -3,7 +3,7 @@ use borrow.Author.Needs.{needs}
 use Rattle.number.specs.Kind.{complex}
 use Rattle.number.specs.Scaling.{scaleByComplex}
 use Rattle.number.proofs.ScalingLaws.{scale-complex}
-use Rattle.product.proofs.Kernels.{gemm-refused, gemm-runs, gemm-done}
+use Rattle.product_plan.proofs.Kernels.{gemm-refused, gemm-runs, gemm-done}
 use Rattle.product.proofs.complex.gemm.Statement.{statement}
 use Rattle.product.proofs.complex.gemm.Tie as tie
 

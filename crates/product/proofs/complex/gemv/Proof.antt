@@ -3,7 +3,7 @@ use borrow.Author.Needs.{needs}
 use Rattle.number.specs.Kind.{complex}
 use Rattle.number.specs.Scaling.{scaleByComplex}
 use Rattle.number.proofs.ScalingLaws.{scale-complex}
-use Rattle.product.proofs.Kernels.{gemv-refused, gemv-vectors, gemv-runs, gemv-done}
+use Rattle.product_plan.proofs.Kernels.{gemv-refused, gemv-vectors, gemv-runs, gemv-done}
 use Rattle.product.proofs.complex.gemv.Statement.{statement}
 use Rattle.product.proofs.complex.gemv.Tie as tie
 

@@ -3,7 +3,7 @@ use borrow.Author.Needs.{needs}
 use Rattle.number.specs.Kind.{complex}
 use Rattle.number.specs.Scaling.{scaleByComplex}
 use Rattle.number.proofs.ScalingLaws.{scale-real}
-use Rattle.product.proofs.Kernels.{herk-refused, herk-runs, herk-done}
+use Rattle.product_plan.proofs.Kernels.{herk-refused, herk-runs, herk-done}
 use Rattle.product.proofs.complex.herk.Statement.{statement}
 use Rattle.product.proofs.complex.herk.Tie as tie
 

@@ -7,8 +7,8 @@ use Rattle.number.specs.Kind.{complex}
 use Rattle.number.specs.Scaling.{scaleByComplex, times}
 use Rattle.slab.proofs.LoopLaws.{row-next, row-last}
 use Rattle.slab.specs.Update.{row as rowOf}
-use Rattle.product.specs.Plan.{planRow}
-use Rattle.product.proofs.Laws.{ready-at}
+use Rattle.product_plan.specs.Plan.{planRow}
+use Rattle.product_plan.proofs.Laws.{ready-at}
 use Rattle.product.proofs.complex.row.Statement.{statement}
 use Rattle.product.proofs.complex.row.Tie as tie
 

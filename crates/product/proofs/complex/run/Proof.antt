@@ -7,8 +7,8 @@ use Rattle.number.specs.Kind.{complex}
 use Rattle.number.specs.Scaling.{scaleByComplex, times}
 use Rattle.slab.specs.Update.{rows as rowsOf}
 use Rattle.slab.proofs.LoopLaws.{rows-next, rows-last}
-use Rattle.product.specs.Plan.{planRows}
-use Rattle.product.proofs.Laws.{ready-row}
+use Rattle.product_plan.specs.Plan.{planRows}
+use Rattle.product_plan.proofs.Laws.{ready-row}
 use Rattle.product.proofs.complex.run.Statement.{statement}
 use Rattle.product.proofs.complex.run.Tie as tie
 

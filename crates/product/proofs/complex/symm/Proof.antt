@@ -3,7 +3,7 @@ use borrow.Author.Needs.{needs}
 use Rattle.number.specs.Kind.{complex}
 use Rattle.number.specs.Scaling.{scaleByComplex}
 use Rattle.number.proofs.ScalingLaws.{scale-complex}
-use Rattle.product.proofs.Kernels.{symm-refused, symm-runs, symm-done}
+use Rattle.product_plan.proofs.Kernels.{symm-refused, symm-runs, symm-done}
 use Rattle.product.proofs.complex.symm.Statement.{statement}
 use Rattle.product.proofs.complex.symm.Tie as tie
 

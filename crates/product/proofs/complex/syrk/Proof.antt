@@ -3,7 +3,7 @@ use borrow.Author.Needs.{needs}
 use Rattle.number.specs.Kind.{complex}
 use Rattle.number.specs.Scaling.{scaleByComplex}
 use Rattle.number.proofs.ScalingLaws.{scale-complex}
-use Rattle.product.proofs.Kernels.{syrk-refused, syrk-runs, syrk-done}
+use Rattle.product_plan.proofs.Kernels.{syrk-refused, syrk-runs, syrk-done}
 use Rattle.product.proofs.complex.syrk.Statement.{statement}
 use Rattle.product.proofs.complex.syrk.Tie as tie
 

@@ -4,8 +4,8 @@ use native.Mathlib.Omega.{arith}
 use denote.Ref.{now}
 use Rattle.number.specs.Kind.{real32}
 use Rattle.slab.specs.Elem.{elem}
-use Rattle.product.specs.Runs.{more}
-use Rattle.product.proofs.RunLaws.{more-start, more-end, more-next}
+use Rattle.product_plan.specs.Runs.{more}
+use Rattle.product_plan.proofs.RunLaws.{more-start, more-end, more-next}
 use Rattle.product.proofs.real32.add_run.Statement.{statement}
 use Rattle.product.proofs.real32.add_run.Tie as tie
 

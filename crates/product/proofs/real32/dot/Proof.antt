@@ -3,7 +3,7 @@ use lib.Ieee.{binary32}
 use Rattle.number.proofs.Literals.{zero-literal}
 use Rattle.number.specs.Kind.{real32}
 use Rattle.blas.proofs.SumLaws.{sum-start}
-use Rattle.product.proofs.RunLaws.{straight-alike, sum-whole}
+use Rattle.product_plan.proofs.RunLaws.{straight-alike, sum-whole}
 use Rattle.product.proofs.real32.dot.Statement.{statement}
 use Rattle.product.proofs.real32.dot.Tie as tie
 

@@ -3,7 +3,7 @@ use denote.Ref.{now}
 use borrow.Author.Needs.{needs}
 use Rattle.number.specs.Scaling.{scaleBy32}
 use Rattle.number.specs.Kind.{real32}
-use Rattle.product.proofs.Laws.{target-shown, target-inside, entry-put}
+use Rattle.product_plan.proofs.Laws.{target-shown, target-inside, entry-put}
 use Rattle.product.proofs.real32.entry.Statement.{statement}
 use Rattle.product.proofs.real32.entry.Tie as tie
 

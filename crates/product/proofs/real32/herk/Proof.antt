@@ -3,7 +3,7 @@ use borrow.Author.Needs.{needs}
 use Rattle.number.specs.Kind.{real32}
 use Rattle.number.specs.Scaling.{scaleBy32}
 use Rattle.number.proofs.ScalingLaws.{scale32}
-use Rattle.product.proofs.Kernels.{herk-refused, herk-runs, herk-done}
+use Rattle.product_plan.proofs.Kernels.{herk-refused, herk-runs, herk-done}
 use Rattle.product.proofs.real32.herk.Statement.{statement}
 use Rattle.product.proofs.real32.herk.Tie as tie
 

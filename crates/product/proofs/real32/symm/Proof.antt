@@ -3,7 +3,7 @@ use borrow.Author.Needs.{needs}
 use Rattle.number.specs.Kind.{real32}
 use Rattle.number.specs.Scaling.{scaleBy32}
 use Rattle.number.proofs.ScalingLaws.{scale32}
-use Rattle.product.proofs.Kernels.{symm-refused, symm-runs, symm-done}
+use Rattle.product_plan.proofs.Kernels.{symm-refused, symm-runs, symm-done}
 use Rattle.product.proofs.real32.symm.Statement.{statement}
 use Rattle.product.proofs.real32.symm.Tie as tie
 

@@ -1,7 +1,7 @@
 use mathlib.Core.Path.{_∙_}
 use lib.Ieee.{binary64}
 use denote.Ref.{now}
-use Rattle.product.proofs.RunLaws.{alike-spans, alike-real}
+use Rattle.product_plan.proofs.RunLaws.{alike-spans, alike-real}
 use Rattle.product.proofs.real64.add_alike.Statement.{statement}
 use Rattle.product.proofs.real64.add_alike.Tie as tie
 

@@ -7,8 +7,8 @@ use Rattle.number.specs.Kind.{real64}
 use Rattle.slab.specs.Elem.{elem}
 use Rattle.blas.proofs.SumLaws.{sum-start, sum-end}
 use Rattle.blas.specs.Matrix.{sum as total}
-use Rattle.product.specs.Plan.{reading}
-use Rattle.product.proofs.RunLaws.{run-alike, sum-more}
+use Rattle.product_plan.specs.Plan.{reading}
+use Rattle.product_plan.proofs.RunLaws.{run-alike, sum-more}
 use Rattle.product.proofs.real64.dot_in_runs.Statement.{statement}
 use Rattle.product.proofs.real64.dot_in_runs.Tie as tie
 

@@ -3,7 +3,7 @@ use borrow.Author.Needs.{needs}
 use Rattle.number.specs.Kind.{real64}
 use Rattle.number.specs.Scaling.{scaleBy64}
 use Rattle.number.proofs.ScalingLaws.{scale64}
-use Rattle.product.proofs.Kernels.{syrk-refused, syrk-runs, syrk-done}
+use Rattle.product_plan.proofs.Kernels.{syrk-refused, syrk-runs, syrk-done}
 use Rattle.product.proofs.real64.syrk.Statement.{statement}
 use Rattle.product.proofs.real64.syrk.Tie as tie
 

@@ -1,6 +1,6 @@
 use borrow.Author.Needs.{needs}
 use Rattle.number.specs.Kind.{complex}
-use Rattle.rank.proofs.Kernels.{her-vector, her-runs, her-done, her-refused}
+use Rattle.rank_plan.proofs.Kernels.{her-vector, her-runs, her-done, her-refused}
 use Rattle.rank.proofs.complex.her.Statement.{statement}
 use Rattle.rank.proofs.complex.her.Tie as tie
 

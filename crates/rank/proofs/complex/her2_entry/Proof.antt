@@ -4,9 +4,9 @@ use denote.Ref.{now}
 use borrow.Author.Needs.{needs}
 use Rattle.number.specs.Kind.{complex}
 use Rattle.slab.specs.Elem.{elem}
-use Rattle.rank.specs.Change.{addTwo}
-use Rattle.rank.proofs.Inside.{shown, inside}
-use Rattle.rank.proofs.Laws.{put-replaced, more, twice}
+use Rattle.rank_plan.specs.Change.{addTwo}
+use Rattle.slab.proofs.Shown.{shown, inside}
+use Rattle.rank_plan.proofs.Laws.{put-replaced, more, twice}
 use Rattle.rank.proofs.complex.her2_entry.Statement.{statement}
 use Rattle.rank.proofs.complex.her2_entry.Tie as tie
 

@@ -3,7 +3,7 @@ use borrow.Author.Needs.{needs}
 use Rattle.number.specs.Kind.{complex}
 use Rattle.number.specs.Scaling.{scaleByComplex}
 use Rattle.number.proofs.ScalingLaws.{scale-real}
-use Rattle.rank.proofs.Kernels.{her2k-runs, her2k-done, her2k-refused}
+use Rattle.rank_plan.proofs.Kernels.{her2k-runs, her2k-done, her2k-refused}
 use Rattle.rank.proofs.complex.her2k.Statement.{statement}
 use Rattle.rank.proofs.complex.her2k.Tie as tie
 

@@ -6,10 +6,10 @@ use denote.Ref.{now}
 use Rattle.number.specs.Kind.{complex}
 use Rattle.slab.specs.Elem.{elem}
 use Rattle.blas.specs.Her.{herChange}
-use Rattle.rank.specs.Change.{addOne}
-use Rattle.rank.proofs.Inside.{column-shows, one-shows}
-use Rattle.rank.proofs.Rows.{span, span-start, span-next, span-last, row-lt, begins, column-lt}
-use Rattle.rank.proofs.Laws.{her-same}
+use Rattle.rank_plan.specs.Change.{addOne}
+use Rattle.rank_plan.proofs.Inside.{column-shows, one-shows}
+use Rattle.rank_plan.proofs.Rows.{span, span-start, span-next, span-last, row-lt, begins, column-lt}
+use Rattle.rank_plan.proofs.Laws.{her-same}
 use Rattle.rank.proofs.complex.her_row.Statement.{statement}
 use Rattle.rank.proofs.complex.her_row.Tie as tie
 
@@ -19,8 +19,8 @@ Inv-loop alpha x vx a₀ va i w end j₀ a j = (j₀ ≤ j) × (j ≤ end) × (l
 abbrev μ-loop : tie.MeasureT-loop
 μ-loop alpha x vx a₀ va i w end j₀ a j = end - j
 
-at-requires : tie.Need-at-requires Inv-loop μ-loop
-at-requires c κs = column-shows _ _ _ (c .before .before .pre .0 .x) _ (c .before .before .pre .1)
+elem-complex-requires : tie.Need-elem-complex-requires Inv-loop μ-loop
+elem-complex-requires c κs = column-shows _ _ _ (c .before .before .pre .0 .x) _ (c .before .before .pre .1)
 
 scale-real-requires : tie.Need-scale-real-requires Inv-loop μ-loop
 scale-real-requires c κs = tt
@@ -53,7 +53,7 @@ same-length : tie.Need-same-length Inv-loop μ-loop
 same-length c = c .before .loop .inv .2
 
 returns : tie.Need-returns Inv-loop μ-loop
-returns c = let p = c .before .before .before .before .before .before .before .before .before .args in span-last complex (p .va) (p .i) (p .uplo) (λ r k. addOne complex (c .before .before .before .before .before .scale-real .result) (elem complex (now (p .x)) (p .vx)) k) (herChange complex (p .alpha) (elem complex (now (p .x)) (p .vx))) _ _ _ _ _ _ (c .before .before .before .before .cols .ensures) (c .before .before .first-col .ensures) (c .before .before .before .end-col .ensures) (row-lt _ _ (c .before .before .before .before .before .before .before .before .before .pre .0 .target) _ (c .before .before .before .before .before .before .before .before .before .pre .1) _ (c .before .before .before .before .cols .ensures)) (c .before .loop .inv .1) (omega arith) (c .before .loop .inv .3) (her-same complex (p .alpha) (elem complex (now (p .x)) (p .vx)) (p .i) _ (c .before .before .before .before .before .scale-real .ensures ∙ ap (complex .scaleReal (p .alpha)) (c .before .before .before .before .before .before .at .ensures)))
+returns c = let p = c .before .before .before .before .before .before .before .before .before .args in span-last complex (p .va) (p .i) (p .uplo) (λ r k. addOne complex (c .before .before .before .before .before .scale-real .result) (elem complex (now (p .x)) (p .vx)) k) (herChange complex (p .alpha) (elem complex (now (p .x)) (p .vx))) _ _ _ _ _ _ (c .before .before .before .before .cols .ensures) (c .before .before .first-col .ensures) (c .before .before .before .end-col .ensures) (row-lt _ _ (c .before .before .before .before .before .before .before .before .before .pre .0 .target) _ (c .before .before .before .before .before .before .before .before .before .pre .1) _ (c .before .before .before .before .cols .ensures)) (c .before .loop .inv .1) (omega arith) (c .before .loop .inv .3) (her-same complex (p .alpha) (elem complex (now (p .x)) (p .vx)) (p .i) _ (c .before .before .before .before .before .scale-real .ensures ∙ ap (complex .scaleReal (p .alpha)) (c .before .before .before .before .before .before .elem-complex .ensures)))
 
 pub her-row-spec : {M : Type 1} → statement M
 her-row-spec =
@@ -61,7 +61,7 @@ her-row-spec =
     (tie.spec
     Inv-loop
     μ-loop
-    at-requires
+    elem-complex-requires
     scale-real-requires
     cols-requires
     end-col-requires

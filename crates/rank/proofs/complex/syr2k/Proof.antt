@@ -3,7 +3,7 @@ use borrow.Author.Needs.{needs}
 use Rattle.number.specs.Kind.{complex}
 use Rattle.number.specs.Scaling.{scaleByComplex}
 use Rattle.number.proofs.ScalingLaws.{scale-complex}
-use Rattle.rank.proofs.Kernels.{syr2k-runs, syr2k-done, syr2k-refused}
+use Rattle.rank_plan.proofs.Kernels.{syr2k-runs, syr2k-done, syr2k-refused}
 use Rattle.rank.proofs.complex.syr2k.Statement.{statement}
 use Rattle.rank.proofs.complex.syr2k.Tie as tie
 

@@ -5,7 +5,7 @@ use lib.Ieee.{binary64}
 use Rattle.number.specs.Kind.{complex}
 use Rattle.number.proofs.Literals.{zero-literal}
 use Rattle.blas.proofs.SumLaws.{pair-start, pair-next, pair-end}
-use Rattle.rank.specs.Change.{weighedsAt}
+use Rattle.rank_plan.specs.Change.{weighedsAt}
 use Rattle.rank.proofs.complex.weighed_sum.Statement.{statement}
 use Rattle.rank.proofs.complex.weighed_sum.Tie as tie
 

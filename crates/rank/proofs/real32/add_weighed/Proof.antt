@@ -1,7 +1,7 @@
 use mathlib.Core.Path.{ap, _∙_}
 use Rattle.number.specs.Kind.{real32}
-use Rattle.rank.proofs.Inside.{left-a-shows, right-b-shows, left-b-shows, right-a-shows}
-use Rattle.rank.proofs.Laws.{more, twice}
+use Rattle.rank_plan.proofs.Inside.{left-a-shows, right-b-shows, left-b-shows, right-a-shows}
+use Rattle.rank_plan.proofs.Laws.{more, twice}
 use Rattle.rank.proofs.real32.add_weighed.Statement.{statement}
 use Rattle.rank.proofs.real32.add_weighed.Tie as tie
 

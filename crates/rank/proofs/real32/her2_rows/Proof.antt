@@ -8,7 +8,7 @@ use Rattle.slab.specs.Elem.{elem}
 use Rattle.slab.specs.Update.{rows as rowsOf}
 use Rattle.slab.proofs.LoopLaws.{rows-next, rows-last}
 use Rattle.blas.specs.Her2.{her2Change}
-use Rattle.rank.proofs.Inside.{two-kept}
+use Rattle.rank_plan.proofs.Inside.{two-kept}
 use Rattle.rank.proofs.real32.her2_rows.Statement.{statement}
 use Rattle.rank.proofs.real32.her2_rows.Tie as tie
 

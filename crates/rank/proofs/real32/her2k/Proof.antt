@@ -3,7 +3,7 @@ use borrow.Author.Needs.{needs}
 use Rattle.number.specs.Kind.{real32}
 use Rattle.number.specs.Scaling.{scaleBy32}
 use Rattle.number.proofs.ScalingLaws.{scale32}
-use Rattle.rank.proofs.Kernels.{her2k-runs, her2k-done, her2k-refused}
+use Rattle.rank_plan.proofs.Kernels.{her2k-runs, her2k-done, her2k-refused}
 use Rattle.rank.proofs.real32.her2k.Statement.{statement}
 use Rattle.rank.proofs.real32.her2k.Tie as tie
 

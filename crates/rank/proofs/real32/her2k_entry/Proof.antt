@@ -4,9 +4,9 @@ use denote.Ref.{now}
 use borrow.Author.Needs.{needs}
 use Rattle.number.specs.Kind.{real32}
 use Rattle.number.specs.Scaling.{scaleBy32}
-use Rattle.rank.specs.Change.{her2kChange}
-use Rattle.rank.proofs.Inside.{shown, inside}
-use Rattle.rank.proofs.Laws.{put-replaced}
+use Rattle.rank_plan.specs.Change.{her2kChange}
+use Rattle.slab.proofs.Shown.{shown, inside}
+use Rattle.rank_plan.proofs.Laws.{put-replaced}
 use Rattle.rank.proofs.real32.her2k_entry.Statement.{statement}
 use Rattle.rank.proofs.real32.her2k_entry.Tie as tie
 

@@ -8,7 +8,7 @@ use Rattle.slab.specs.Elem.{elem}
 use Rattle.slab.specs.Update.{rows as rowsOf}
 use Rattle.slab.proofs.LoopLaws.{rows-next, rows-last}
 use Rattle.blas.specs.Her.{herChange}
-use Rattle.rank.proofs.Inside.{one-kept}
+use Rattle.rank_plan.proofs.Inside.{one-kept}
 use Rattle.rank.proofs.real32.her_rows.Statement.{statement}
 use Rattle.rank.proofs.real32.her_rows.Tie as tie
 

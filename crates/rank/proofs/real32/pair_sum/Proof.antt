@@ -5,7 +5,7 @@ use lib.Ieee.{binary32}
 use Rattle.number.specs.Kind.{real32}
 use Rattle.number.proofs.Literals.{zero-literal}
 use Rattle.blas.proofs.SumLaws.{pair-start, pair-next, pair-end}
-use Rattle.rank.specs.Change.{pairsAt}
+use Rattle.rank_plan.specs.Change.{pairsAt}
 use Rattle.rank.proofs.real32.pair_sum.Statement.{statement}
 use Rattle.rank.proofs.real32.pair_sum.Tie as tie
 

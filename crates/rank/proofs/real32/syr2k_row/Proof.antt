@@ -5,9 +5,9 @@ use lib.ListN.{length}
 use denote.Ref.{now}
 use Rattle.number.specs.Kind.{real32}
 use Rattle.number.specs.Scaling.{scaleBy32}
-use Rattle.rank.specs.Change.{syr2kChange}
-use Rattle.rank.proofs.Inside.{paired-shows}
-use Rattle.rank.proofs.Rows.{span, span-start, span-next, span-last, row-lt, begins, column-lt}
+use Rattle.rank_plan.specs.Change.{syr2kChange}
+use Rattle.rank_plan.proofs.Inside.{paired-shows}
+use Rattle.rank_plan.proofs.Rows.{span, span-start, span-next, span-last, row-lt, begins, column-lt}
 use Rattle.rank.proofs.real32.syr2k_row.Statement.{statement}
 use Rattle.rank.proofs.real32.syr2k_row.Tie as tie
 

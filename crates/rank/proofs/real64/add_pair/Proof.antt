@@ -1,6 +1,6 @@
 use Rattle.number.specs.Kind.{real64}
-use Rattle.rank.proofs.Inside.{left-a-shows, right-b-shows, left-b-shows, right-a-shows}
-use Rattle.rank.proofs.Laws.{more, twice}
+use Rattle.rank_plan.proofs.Inside.{left-a-shows, right-b-shows, left-b-shows, right-a-shows}
+use Rattle.rank_plan.proofs.Laws.{more, twice}
 use Rattle.rank.proofs.real64.add_pair.Statement.{statement}
 use Rattle.rank.proofs.real64.add_pair.Tie as tie
 

@@ -1,6 +1,6 @@
 use borrow.Author.Needs.{needs}
 use Rattle.number.specs.Kind.{real64}
-use Rattle.rank.proofs.Kernels.{her-vector, her-runs, her-done, her-refused}
+use Rattle.rank_plan.proofs.Kernels.{her-vector, her-runs, her-done, her-refused}
 use Rattle.rank.proofs.real64.her.Statement.{statement}
 use Rattle.rank.proofs.real64.her.Tie as tie
 

@@ -1,6 +1,6 @@
 use borrow.Author.Needs.{needs}
 use Rattle.number.specs.Kind.{real64}
-use Rattle.rank.proofs.Kernels.{her2-vectors, her2-runs, her2-done, her2-refused}
+use Rattle.rank_plan.proofs.Kernels.{her2-vectors, her2-runs, her2-done, her2-refused}
 use Rattle.rank.proofs.real64.her2.Statement.{statement}
 use Rattle.rank.proofs.real64.her2.Tie as tie
 

@@ -6,10 +6,10 @@ use denote.Ref.{now}
 use Rattle.number.specs.Kind.{real64}
 use Rattle.slab.specs.Elem.{elem}
 use Rattle.blas.specs.Her2.{her2Change}
-use Rattle.rank.specs.Change.{addTwo}
-use Rattle.rank.proofs.Inside.{column-shows, two-shows}
-use Rattle.rank.proofs.Rows.{span, span-start, span-next, span-last, row-lt, begins, column-lt}
-use Rattle.rank.proofs.Laws.{her2-same}
+use Rattle.rank_plan.specs.Change.{addTwo}
+use Rattle.rank_plan.proofs.Inside.{column-shows, two-shows}
+use Rattle.rank_plan.proofs.Rows.{span, span-start, span-next, span-last, row-lt, begins, column-lt}
+use Rattle.rank_plan.proofs.Laws.{her2-same}
 use Rattle.rank.proofs.real64.her2_row.Statement.{statement}
 use Rattle.rank.proofs.real64.her2_row.Tie as tie
 
@@ -19,8 +19,8 @@ Inv-loop x vx y vy a₀ va i w w2 end j₀ a j = (j₀ ≤ j) × (j ≤ end) × 
 abbrev μ-loop : tie.MeasureT-loop
 μ-loop x vx y vy a₀ va i w w2 end j₀ a j = end - j
 
-at-requires : tie.Need-at-requires Inv-loop μ-loop
-at-requires c κs = column-shows _ _ _ (c .before .before .before .pre .0 .x) _ (c .before .before .before .pre .1)
+elem64-requires : tie.Need-elem64-requires Inv-loop μ-loop
+elem64-requires c κs = column-shows _ _ _ (c .before .before .before .pre .0 .x) _ (c .before .before .before .pre .1)
 
 mul-requires : tie.Need-mul-requires Inv-loop μ-loop
 mul-requires c κs = tt
@@ -28,8 +28,8 @@ mul-requires c κs = tt
 conj-requires : tie.Need-conj-requires Inv-loop μ-loop
 conj-requires c κs = tt
 
-at-requires-2 : tie.Need-at-requires-2 Inv-loop μ-loop
-at-requires-2 c κs = column-shows _ _ _ (c .before .before .before .before .before .before .pre .0 .y) _ (c .before .before .before .before .before .before .pre .1)
+elem64-requires-2 : tie.Need-elem64-requires-2 Inv-loop μ-loop
+elem64-requires-2 c κs = column-shows _ _ _ (c .before .before .before .before .before .before .pre .0 .y) _ (c .before .before .before .before .before .before .pre .1)
 
 mul-requires-2 : tie.Need-mul-requires-2 Inv-loop μ-loop
 mul-requires-2 c κs = tt
@@ -62,7 +62,7 @@ same-length : tie.Need-same-length Inv-loop μ-loop
 same-length c = c .before .loop .inv .2
 
 returns : tie.Need-returns Inv-loop μ-loop
-returns c = let p = c .before .before .before .before .before .before .before .before .before .before .before .before .before .args in span-last real64 (p .va) (p .i) (p .uplo) (λ r k. addTwo real64 (c .before .before .before .before .before .before .before .before .mul .result .0) (c .before .before .before .before .before .mul2 .result .0) (elem real64 (now (p .x)) (p .vx)) (elem real64 (now (p .y)) (p .vy)) k) (her2Change real64 (p .alpha .0) (elem real64 (now (p .x)) (p .vx)) (elem real64 (now (p .y)) (p .vy))) _ _ _ _ _ _ (c .before .before .before .before .cols .ensures) (c .before .before .first-col .ensures) (c .before .before .before .end-col .ensures) (row-lt _ _ (c .before .before .before .before .before .before .before .before .before .before .before .before .before .pre .0 .target) _ (c .before .before .before .before .before .before .before .before .before .before .before .before .before .pre .1) _ (c .before .before .before .before .cols .ensures)) (c .before .loop .inv .1) (omega arith) (c .before .loop .inv .3) (her2-same real64 (p .alpha .0) (elem real64 (now (p .x)) (p .vx)) (elem real64 (now (p .y)) (p .vy)) (p .i) _ _ (c .before .before .before .before .before .before .before .before .mul .ensures ∙ ap (real64 .mul (p .alpha .0)) (c .before .before .before .before .before .before .before .before .before .at .ensures)) (c .before .before .before .before .before .mul2 .ensures ∙ (λ t. real64 .mul (c .before .before .before .before .before .before .before .conj .ensures t) (c .before .before .before .before .before .before .at2 .ensures t))))
+returns c = let p = c .before .before .before .before .before .before .before .before .before .before .before .before .before .args in span-last real64 (p .va) (p .i) (p .uplo) (λ r k. addTwo real64 (c .before .before .before .before .before .before .before .before .mul .result .0) (c .before .before .before .before .before .mul2 .result .0) (elem real64 (now (p .x)) (p .vx)) (elem real64 (now (p .y)) (p .vy)) k) (her2Change real64 (p .alpha .0) (elem real64 (now (p .x)) (p .vx)) (elem real64 (now (p .y)) (p .vy))) _ _ _ _ _ _ (c .before .before .before .before .cols .ensures) (c .before .before .first-col .ensures) (c .before .before .before .end-col .ensures) (row-lt _ _ (c .before .before .before .before .before .before .before .before .before .before .before .before .before .pre .0 .target) _ (c .before .before .before .before .before .before .before .before .before .before .before .before .before .pre .1) _ (c .before .before .before .before .cols .ensures)) (c .before .loop .inv .1) (omega arith) (c .before .loop .inv .3) (her2-same real64 (p .alpha .0) (elem real64 (now (p .x)) (p .vx)) (elem real64 (now (p .y)) (p .vy)) (p .i) _ _ (c .before .before .before .before .before .before .before .before .mul .ensures ∙ ap (real64 .mul (p .alpha .0)) (c .before .before .before .before .before .before .before .before .before .elem64 .ensures)) (c .before .before .before .before .before .mul2 .ensures ∙ (λ t. real64 .mul (c .before .before .before .before .before .before .before .conj .ensures t) (c .before .before .before .before .before .before .elem642 .ensures t))))
 
 pub her2-row-spec : {M : Type 1} → statement M
 her2-row-spec =
@@ -70,10 +70,10 @@ her2-row-spec =
     (tie.spec
     Inv-loop
     μ-loop
-    at-requires
+    elem64-requires
     mul-requires
     conj-requires
-    at-requires-2
+    elem64-requires-2
     mul-requires-2
     cols-requires
     end-col-requires

@@ -7,8 +7,8 @@ use Rattle.number.specs.Scaling.{scaleBy64}
 use Rattle.view.specs.Triangle.{inTriangle}
 use Rattle.slab.specs.Update.{rows as rowsOf}
 use Rattle.slab.proofs.LoopLaws.{rows-next, rows-last}
-use Rattle.rank.specs.Change.{her2kChange}
-use Rattle.rank.proofs.Inside.{paired-kept}
+use Rattle.rank_plan.specs.Change.{her2kChange}
+use Rattle.rank_plan.proofs.Inside.{paired-kept}
 use Rattle.rank.proofs.real64.her2k_rows.Statement.{statement}
 use Rattle.rank.proofs.real64.her2k_rows.Tie as tie
 

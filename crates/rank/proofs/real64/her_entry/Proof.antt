@@ -4,9 +4,9 @@ use denote.Ref.{now}
 use borrow.Author.Needs.{needs}
 use Rattle.number.specs.Kind.{real64}
 use Rattle.slab.specs.Elem.{elem}
-use Rattle.rank.specs.Change.{addOne}
-use Rattle.rank.proofs.Inside.{shown, inside}
-use Rattle.rank.proofs.Laws.{put-replaced, more}
+use Rattle.rank_plan.specs.Change.{addOne}
+use Rattle.slab.proofs.Shown.{shown, inside}
+use Rattle.rank_plan.proofs.Laws.{put-replaced, more}
 use Rattle.rank.proofs.real64.her_entry.Statement.{statement}
 use Rattle.rank.proofs.real64.her_entry.Tie as tie
 

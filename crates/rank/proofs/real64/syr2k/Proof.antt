@@ -3,7 +3,7 @@ use borrow.Author.Needs.{needs}
 use Rattle.number.specs.Kind.{real64}
 use Rattle.number.specs.Scaling.{scaleBy64}
 use Rattle.number.proofs.ScalingLaws.{scale64}
-use Rattle.rank.proofs.Kernels.{syr2k-runs, syr2k-done, syr2k-refused}
+use Rattle.rank_plan.proofs.Kernels.{syr2k-runs, syr2k-done, syr2k-refused}
 use Rattle.rank.proofs.real64.syr2k.Statement.{statement}
 use Rattle.rank.proofs.real64.syr2k.Tie as tie
 

@@ -1,0 +1,12 @@
+use borrow.Author.Needs.{needs}
+use Rattle.product_plan.proofs.routines.gemm_plan.Statement.{statement}
+use Rattle.product_plan.proofs.routines.gemm_plan.Tie as tie
+
+op-cols-requires : tie.Need-op-cols-requires
+op-cols-requires c κs = tt
+
+returns : tie.Need-returns
+returns c = cc
+
+pub gemm-plan-spec : {M : Type 1} → statement M
+gemm-plan-spec = tie.close (tie.spec op-cols-requires returns)

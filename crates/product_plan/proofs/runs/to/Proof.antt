@@ -1,0 +1,27 @@
+use mathlib.Core.Path.{refl}
+use native.Mathlib.Omega.{arith}
+use borrow.Author.Needs.{needs}
+use Rattle.product_plan.proofs.RunLaws.{to-near, to-far}
+use Rattle.product_plan.proofs.runs.to.Statement.{statement}
+use Rattle.product_plan.proofs.runs.to.Tie as tie
+
+sub-result : tie.Need-sub-result
+sub-result c = search needs
+
+sub-result-2 : tie.Need-sub-result-2
+sub-result-2 c = search needs
+
+sub-result-3 : tie.Need-sub-result-3
+sub-result-3 c = search needs
+
+returns : tie.Need-returns
+returns c = to-near _ _ _ _ (c .before .if1 .taken) (c .if2 .taken) refl
+
+returns-2 : tie.Need-returns-2
+returns-2 c = to-far _ _ _ _ (c .before .before .pre) refl (λ h. c .if2 .left)
+
+returns-3 : tie.Need-returns-3
+returns-3 c = to-far _ _ _ _ (c .before .pre) refl (λ h. omega (arith, c .if1 .left))
+
+pub to-spec : {M : Type 1} → statement M
+to-spec = tie.close (tie.spec sub-result sub-result-2 sub-result-3 returns returns-2 returns-3)
