@@ -17,11 +17,12 @@ use Rattle.slab.specs.Elem.{Lent, lent}
 use Rattle.slab.specs.Update.{Mask}
 use Rattle.blas.specs.Matrix.{Matrix, matrix, dot}
 use Rattle.blas.specs.Outcome.{outcome}
+use Rattle.blas.proofs.Elements.{fits-inside, apart-distinct}
 use Rattle.theorems.specs.Agreement.{Product, run, Others, Alike, SameShape, Agree, Coefficient, Sees}
 use Rattle.theorems.proofs.AgreeSums.{Picks, sum-cong, pick-left, pick-right}
 use Rattle.theorems.proofs.AgreeReadings.{Faithful, same-shown, reading-same, reading-holds, reading-finite}
 use Rattle.theorems.proofs.AgreeOutcomes.{done, Value, accepted-view, judge-same, outcome-same, done-same, tells}
-use Rattle.theorems.proofs.AgreeUnits.{Fair, Zeros, UnitIn, unitSlab, unit-count, unit-picks, shot, accepted-inside, accepted-distinct}
+use Rattle.theorems.proofs.AgreeUnits.{Fair, Zeros, UnitIn, unitSlab, unit-count, unit-picks, shot}
 
 -- ---- A on a side of the other factor
 
@@ -214,8 +215,8 @@ module _ (K : Kind) (L : Laws K) (f : Routine K) (Form : View → Type 0) (names
           let u = b .picks s q (unit-picks K L Z terms q hq) i j hi hj in
           let accepted = subst (Accepted written) (sym (Z .count (b .m))) (b .written-accepted) in
           tells K L written (Z .slab (b .m))
-          (accepted-inside written (K .count (Z .slab (b .m))) accepted)
-          (accepted-distinct written (K .count (Z .slab (b .m))) accepted (b .written-apart))
+          (fits-inside written (K .count (Z .slab (b .m))) (accepted .fits))
+          (apart-distinct written (K .count (Z .slab (b .m))) (accepted .fits) (b .written-apart))
           _
           _
           i

@@ -18,7 +18,8 @@ use Rattle.view.specs.Vector.{columnOf}
 use Rattle.slab.specs.Update.{Change, everywhere, update}
 use Rattle.slab.proofs.UpdateLaws.{update-shown}
 use Rattle.blas.specs.Substitution.{unknownAt, unknown}
-use Rattle.theorems.proofs.AgreeUnits.{line, line-index, line-column-index, Fair, column-fair, row-fair, vector-accepted, vector-apart, accepted-inside, accepted-distinct}
+use Rattle.blas.proofs.Elements.{fits-inside, apart-distinct}
+use Rattle.theorems.proofs.AgreeUnits.{line, line-index, line-column-index, Fair, column-fair, row-fair, vector-accepted, vector-apart}
 use Rattle.theorems.proofs.AgreeProducts.{breadth}
 
 -- v shows n unknowns in one line, the first n elements of a slab
@@ -54,8 +55,8 @@ module _ (K : Kind) (L : Laws K) (side : Side) (v : View) (n : ℕ) (w : Strip s
 
       at : (side : Side) → q < orderOf side v → 0 < breadth side v →
           unknown K side (update K v everywhere u s) v q 0 ≡ u (rowAt side q) (colAt side q) (unknown K side s v q 0)
-      at Left p l = update-shown K (L .slab) v everywhere u s (accepted-inside v _ accepted) (accepted-distinct v _ accepted (w .apart)) q 0 p l
-      at Right p l = update-shown K (L .slab) v everywhere u s (accepted-inside v _ accepted) (accepted-distinct v _ accepted (w .apart)) 0 q l p
+      at Left p l = update-shown K (L .slab) v everywhere u s (fits-inside v _ (accepted .fits)) (apart-distinct v _ (accepted .fits) (w .apart)) q 0 p l
+      at Right p l = update-shown K (L .slab) v everywhere u s (fits-inside v _ (accepted .fits)) (apart-distinct v _ (accepted .fits) (w .apart)) 0 q l p
 
 -- B: a column where A is on the left, a row where it is on the right
 abbrev pub strip : Side → ℕ → View

@@ -13,15 +13,14 @@ use Rattle.number.specs.Kind.{Kind}
 use Rattle.number.specs.Laws.{Laws, Held}
 use Rattle.view.specs.declared.View.{View}
 use Rattle.view.specs.Place.{place, index}
-use Rattle.view.specs.PlaceLaws.{inside→fits, fits→index-lt}
+use Rattle.view.specs.PlaceLaws.{inside→fits}
 use Rattle.view.specs.Refusals.{limit, overlaps, isVector}
-use Rattle.view.specs.OverlapLaws.{overlaps-is, no-meeting, no-overlap→index-inj}
+use Rattle.view.specs.OverlapLaws.{overlaps-is, no-meeting}
 use Rattle.view.specs.Steps.{Accepted}
 use Rattle.view.specs.Vector.{vecCoord, columnOf}
 use Rattle.view.specs.VectorLaws.{column-index, coord-sum, column-accepted, column-no-overlap}
 use Rattle.view.specs.AnyLaws.{or-right}
 use Rattle.slab.specs.Elem.{lent}
-use Rattle.slab.specs.Distinct.{Inside, Distinct}
 use Rattle.theorems.specs.Agreement.{Words, Others}
 use Rattle.theorems.proofs.AgreeSums.{Picks}
 
@@ -82,12 +81,6 @@ row-fair n h = record {
 }
 
 -- ---- targets: every element in the slab, each on a place of its own
-
-pub accepted-inside : (v : View) (len : ℕ) → Accepted v len → Inside v len
-accepted-inside v len a = record { below = fits→index-lt v len (a .fits) }
-
-pub accepted-distinct : (v : View) (len : ℕ) → Accepted v len → overlaps v ≡ false → Distinct v
-accepted-distinct v len a h = record { only = no-overlap→index-inj v len (a .fits) h }
 
 -- ---- the line as a vector
 

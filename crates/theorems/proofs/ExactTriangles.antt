@@ -1,5 +1,5 @@
 -- The triangular products trmv and trmm are exact on whole numbers of document 01's range, over any kind with its basis.
-use Prim.Native.Nat.{ℕ, _*_, _≤_, _<_}
+use Prim.Native.Nat.{ℕ, _*_, _<_}
 use mathlib.Core.Bool.{Bool, true, false, cond, not, _&&_}
 use mathlib.Core.Path.{_≡_, refl, sym, ap, subst, _∙_}
 use lib.Dec.{eqb, lit≤}
@@ -10,6 +10,7 @@ use Rattle.view.specs.declared.Trans.the-variants.{NoTrans, Trans as Transposed
 use Rattle.view.specs.declared.UpLo.{UpLo}
 use Rattle.view.specs.declared.UpLo.the-variants.{Upper, Lower}
 use Rattle.view.specs.declared.Diag.{Diag}
+use Rattle.view.specs.declared.Diag.the-variants.{NonUnit, Unit}
 use Rattle.view.specs.declared.Side.{Side}
 use Rattle.view.specs.declared.Side.the-variants.{Left, Right}
 use Rattle.view.specs.AnyLaws.{and-both}
@@ -26,7 +27,8 @@ use Rattle.blas.specs.Trmv.{trmv}
 use Rattle.blas.specs.Trmm.{trmm}
 use Rattle.theorems.specs.Exactness.{Shows, timesVector}
 use Rattle.theorems.specs.ExactProducts.{onSide}
-use Rattle.theorems.specs.ExactTriangles.{onUnit, readTriangle, triangleOf, TrmvExact, TrmmExact, TrianglesExact}
+use Rattle.theorems.specs.TriangularAgreement.{named}
+use Rattle.theorems.specs.ExactTriangles.{onUnit, triangleOf, TrmvExact, TrmmExact, TrianglesExact}
 use Rattle.theorems.proofs.Rings.{Ring, skipped}
 use Rattle.theorems.proofs.ExactSums.{room-sum, Sized, mul-sized, over-exact}
 use Rattle.theorems.proofs.ExactReadings.{conj-sized}
@@ -93,25 +95,26 @@ module _ {Z : Kind} (R : Ring Z) (uplo : UpLo) (diag : Diag) (a : Matrix Z) wher
       (λ p h. ap (Z .mul (b i p)) (inside-is t p j h))
       (λ p h. ap (Z .mul (b i p)) (outside-is t p j h) ∙ R .mul-zero (b i p))
 
+is-named : (uplo : UpLo) (diag : Diag) (i j : ℕ) → inTriangle uplo i j ≡ true → onUnit diag i j ≡ false → named uplo diag i j ≡ true
+is-named uplo NonUnit i j e f = e
+is-named uplo Unit i j e f = and-both (inTriangle uplo i j) (not (eqb i j)) e (ap not f)
+
 module _ {K Z : Kind} (B : Basis K Z) where
   -- ---- an element of op(A)'s triangle
 
-  module _ (uplo : UpLo) (diag : Diag) (n : ℕ) (a : Matrix K) (za : Matrix Z) (h : Range B (readTriangle uplo diag) n n a za) where
+  module _ (uplo : UpLo) (diag : Diag) (n : ℕ) (a : Matrix K) (za : Matrix Z) (h : Range B (named uplo diag) n n a za) where
     unread : (b : Bool) (x : K .Elem) (z : Z .Elem) → (b ≡ false → Sized (B .exact) (elementSize B) x z)
         → Sized (B .exact) (elementSize B) (cond b (K .one) x) (cond b (Z .one) z)
     unread true x z e = record { same = B .exact .one-exact; size = B .size-one }
     unread false x z e = e refl
 
-    is-read : (i j : ℕ) → inTriangle uplo i j ≡ true → onUnit diag i j ≡ false → readTriangle uplo diag i j ≡ true
-    is-read i j e f = and-both (inTriangle uplo i j) (not (onUnit diag i j)) e (ap not f)
-
     triangular-sized : (t : Trans) (i j : ℕ) → i < n → j < n → inOp uplo t i j ≡ true
         → Sized (B .exact) (elementSize B) (triangular K diag t a i j) (triangular Z diag t za i j)
-    triangular-sized NoTrans i j p q e = unread (onUnit diag i j) _ _ (λ f. h i j p q (is-read i j (sym (in-place uplo i j) ∙ e) f))
+    triangular-sized NoTrans i j p q e = unread (onUnit diag i j) _ _ (λ f. h i j p q (is-named uplo diag i j (sym (in-place uplo i j) ∙ e) f))
     triangular-sized Transposed i j p q e =
-        unread (onUnit diag i j) _ _ (λ f. h j i q p (is-read j i (sym (in-transposed uplo i j) ∙ e) (unit-swap diag j i ∙ f)))
+        unread (onUnit diag i j) _ _ (λ f. h j i q p (is-named uplo diag j i (sym (in-transposed uplo i j) ∙ e) (unit-swap diag j i ∙ f)))
     triangular-sized ConjTrans i j p q e =
-        unread (onUnit diag i j) _ _ (λ f. conj-sized (B .exact) (h j i q p (is-read j i (sym (in-conjugate uplo i j) ∙ e) (unit-swap diag j i ∙ f))))
+        unread (onUnit diag i j) _ _ (λ f. conj-sized (B .exact) (h j i q p (is-named uplo diag j i (sym (in-conjugate uplo i j) ∙ e) (unit-swap diag j i ∙ f))))
 
     -- ---- its products with a matrix
 
@@ -141,7 +144,7 @@ module _ {K Z : Kind} (B : Basis K Z) where
       let column = column-accepted (x .view) _ (s .1 .vector) (passed .each .1 .0) in
       let n = columnOf (x .view) .rows in
       let few : Few n = few-rows (columnOf (x .view)) _ column in
-      let read : Range B (readTriangle uplo diag) n n (matrix K a) za = fit B (s .1 .length) (s .1 .length ∙ sym (s .0)) (shows-sized B (readTriangle uplo diag) a za ha) in
+      let read : Range B (named uplo diag) n n (matrix K a) za = fit B (s .1 .length) (s .1 .length ∙ sym (s .0)) (shows-sized B (named uplo diag) a za ha) in
       let product = timesVector Z (a .view .rows) (op Z trans (triangleOf Z uplo diag za)) zx in
       record {
         left = λ i p. outcome-same (B .laws .slab) (columnOf (x .view)) everywhere
@@ -162,7 +165,7 @@ module _ {K Z : Kind} (B : Basis K Z) where
   -- ---- trmm
 
   sided-sums : (side : Side) (uplo : UpLo) (diag : Diag) (trans : Trans) (a b : Lent K) (za zb : Matrix Z) (few : Few (orderOf side (b .view)))
-      → Range B (readTriangle uplo diag) (orderOf side (b .view)) (orderOf side (b .view)) (matrix K a) za → Shows (wholes B) everywhere b zb
+      → Range B (named uplo diag) (orderOf side (b .view)) (orderOf side (b .view)) (matrix K a) za → Shows (wholes B) everywhere b zb
       → Sums B (orderOf side (b .view)) few (b .view .rows) (b .view .cols)
       (triangularDot K side uplo trans diag (orderOf side (b .view)) (matrix K a) (matrix K b))
       (triangularDot Z side uplo trans diag (orderOf side (b .view)) za zb)
@@ -177,7 +180,7 @@ module _ {K Z : Kind} (B : Basis K Z) where
       let s = trmm-sizes side (a .view) (b .view) (passed .shape) in
       let n = orderOf side (b .view) in
       let few = few-order side (b .view) _ (passed .each .1 .0) in
-      let read : Range B (readTriangle uplo diag) n n (matrix K a) za = fit B (sym (s .0)) (sym (s .1)) (shows-sized B (readTriangle uplo diag) a za ha) in
+      let read : Range B (named uplo diag) n n (matrix K a) za = fit B (sym (s .0)) (sym (s .1)) (shows-sized B (named uplo diag) a za ha) in
       record {
         left = outcome-same (B .laws .slab) (b .view) everywhere
             (λ i j old. K .mul alpha (triangularDot K side uplo trans diag n (matrix K a) (matrix K b) i j)) (b .slab) (passed .each .1 .0) (passed .distinct)

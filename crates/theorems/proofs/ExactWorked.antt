@@ -33,7 +33,7 @@ use Rattle.blas.specs.Gemv.{gemv}
 use Rattle.blas.specs.Her2k.{her2k}
 use Rattle.blas.specs.Trmm.{trmm}
 use Rattle.theorems.specs.Exactness.{Wholes, Whole, Shows, ShowsVector, largestPart, largestScalarPart, realWholes, complexWholes}
-use Rattle.theorems.specs.ExactTriangles.{readTriangle}
+use Rattle.theorems.specs.TriangularAgreement.{named}
 use Rattle.theorems.proofs.ExactInstances.{real64-products, complex-products, complex-rank, real64-triangles}
 
 -- ---- the conditions as tests
@@ -209,9 +209,9 @@ triangled-answer = refl
 zt : Matrix integers
 zt = rowsOf (pos 0) 2 (pos 0 ∷ pos 0 ∷ pos 3 ∷ pos 0 ∷ [])
 
-t-shows : Shows realWholes (readTriangle Lower Unit) t zt
+t-shows : Shows realWholes (named Lower Unit) t zt
 unfolding zt rowsOf any index place eq isNan
-t-shows = shows-by realWholes (readTriangle Lower Unit) t zt refl
+t-shows = shows-by realWholes (named Lower Unit) t zt refl
 
 -- 2 (5 + 3·7) and 2·7
 pub triangled-exact : Same real64 (elem real64 (triangled .slab) (b .view) 0 0) (float 52) × Same real64 (elem real64 (triangled .slab) (b .view) 1 0) (float 14)

@@ -1,7 +1,7 @@
 -- The triangular products trmv and trmm on whole numbers of document 01's range. Of a call that answers 0: each element of the target is, as a
 -- number, the papers' formula over whole numbers. Of A only the named triangle has to be whole, without its diagonal where that is Unit.
 use Prim.Native.Nat.{ℕ}
-use mathlib.Core.Bool.{Bool, cond, not, _&&_}
+use mathlib.Core.Bool.{Bool, cond, _&&_}
 use mathlib.Core.Path.{_≡_}
 use lib.Dec.{eqb}
 use Rattle.number.specs.Kind.{Kind}
@@ -12,21 +12,18 @@ use Rattle.view.specs.declared.Side.{Side}
 use Rattle.view.specs.Checks.{orderOf}
 use Rattle.view.specs.Triangle.{inTriangle}
 use Rattle.slab.specs.Elem.{Lent}
-use Rattle.slab.specs.Update.{Mask, everywhere}
+use Rattle.slab.specs.Update.{everywhere}
 use Rattle.blas.specs.Matrix.{Matrix, op}
 use Rattle.blas.specs.Triangular.{isUnit}
 use Rattle.blas.specs.Trmv.{trmv}
 use Rattle.blas.specs.Trmm.{trmm}
 use Rattle.theorems.specs.Exactness.{Wholes, Scalar, Shows, ShowsVector, Leaves, LeavesVector, timesVector}
 use Rattle.theorems.specs.ExactProducts.{onSide}
+use Rattle.theorems.specs.TriangularAgreement.{named}
 
 -- (i, j) is on a Unit diagonal
 abbrev pub onUnit : Diag → ℕ → ℕ → Bool
 onUnit diag i j = isUnit diag && eqb i j
-
--- the elements of A that are read
-abbrev pub readTriangle : UpLo → Diag → Mask
-readTriangle uplo diag i j = inTriangle uplo i j && not (onUnit diag i j)
 
 -- the triangular matrix of A: A's elements in the named triangle, ONE on a Unit diagonal, ZERO outside the triangle
 abbrev pub triangleOf : (Z : Kind) → UpLo → Diag → Matrix Z → Matrix Z
@@ -37,7 +34,7 @@ module _ {K Z : Kind} (W : Wholes K Z) where
   abbrev pub TrmvExact : Type 0
   TrmvExact =
       (uplo : UpLo) (trans : Trans) (diag : Diag) (a x : Lent K) (za : Matrix Z) (zx : ℕ → Z .Elem)
-      → Shows W (readTriangle uplo diag) a za → ShowsVector W x zx
+      → Shows W (named uplo diag) a za → ShowsVector W x zx
       → trmv K uplo trans diag a x .answer ≡ 0
       → LeavesVector W (trmv K uplo trans diag a x) (x .view) (timesVector Z (a .view .rows) (op Z trans (triangleOf Z uplo diag za)) zx)
 
@@ -45,7 +42,7 @@ module _ {K Z : Kind} (W : Wholes K Z) where
   abbrev pub TrmmExact : Type 0
   TrmmExact =
       (side : Side) (uplo : UpLo) (trans : Trans) (diag : Diag) (alpha : K .Elem) (a b : Lent K) (zalpha : Z .Elem) (za zb : Matrix Z)
-      → Scalar W alpha zalpha → Shows W (readTriangle uplo diag) a za → Shows W everywhere b zb
+      → Scalar W alpha zalpha → Shows W (named uplo diag) a za → Shows W everywhere b zb
       → trmm K side uplo trans diag alpha a b .answer ≡ 0
       → Leaves W everywhere (trmm K side uplo trans diag alpha a b) (b .view)
       (λ i j. Z .mul zalpha (onSide Z side (orderOf side (b .view)) (op Z trans (triangleOf Z uplo diag za)) zb i j))
