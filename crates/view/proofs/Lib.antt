@@ -4,3 +4,4 @@ mod Extent
 mod Multiples
 mod Vectors
 mod Placed
+mod Runs

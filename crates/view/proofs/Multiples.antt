@@ -2,7 +2,7 @@
 use mathlib.Core.Path.{_≡_, sym, _∙_, ap}
 use mathlib.Core.Bool.{true, false}
 use Prim.Native.Nat.{ℕ, zero, suc, _+_, _-_, _*_, _/_, _%_, _≤_, _<_}
-use native.Mathlib.Nat.{zero-mul, one-mul, mul-pos, mul-le-mul-right, div-add-mod', mod-lt}
+use native.Mathlib.Nat.{mul-zero, zero-mul, one-mul, mul-pos, mul-le-mul-right, div-add-mod', mod-lt}
 use native.Mathlib.Decide.{decLt}
 use native.Mathlib.Omega.{arith}
 use Rattle.view.specs.AnyLaws.{both-ways}
@@ -50,6 +50,17 @@ far-apart rows x cols y p h m = at (m .k) (m .d) (m .d-lt) (m .some) (m .same)
     at : (k d : ℕ) → d < cols → 0 < k + d → k * x ≡ d * y → ⊥
     at zero d q s e = omega (arith, zero-mul x, mul-pos {m = d} {n = y} (omega arith) p)
     at (suc k) d q s e =
+        let l : d ≤ cols - 1 = omega arith in
+        omega (arith, mul-le-mul-right y l, mul-le-mul-right {m = 1} {n = suc k} x (omega arith), one-mul x)
+
+-- the same with a y that may be 0 where there is but one column
+pub each-past : (rows x cols y : ℕ) → cols - 1 ≤ (cols - 1) * y → (cols - 1) * y < x → Meeting rows x cols y → ⊥
+each-past rows x cols y p h m = at y p h (m .k) (m .d) (m .d-lt) (m .some) (m .same)
+  where
+    at : (y : ℕ) → cols - 1 ≤ (cols - 1) * y → (cols - 1) * y < x → (k d : ℕ) → d < cols → 0 < k + d → k * x ≡ d * y → ⊥
+    at zero p h zero d q s e = omega (arith, mul-zero (cols - 1))
+    at (suc y) p h zero d q s e = omega (arith, zero-mul x, mul-pos {m = d} {n = suc y} (omega arith) (omega arith))
+    at y p h (suc k) d q s e =
         let l : d ≤ cols - 1 = omega arith in
         omega (arith, mul-le-mul-right y l, mul-le-mul-right {m = 1} {n = suc k} x (omega arith), one-mul x)
 

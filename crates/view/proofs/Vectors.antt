@@ -2,14 +2,12 @@
 use mathlib.Core.Path.{_≡_, sym, _∙_, ap}
 use mathlib.Core.Bool.{Bool, true, false, _&&_}
 use Prim.Native.Nat.{ℕ, _≤_, _<_}
-use native.Mathlib.Omega.{arith}
 use lib.Dec.{leb, eqb}
 use borrow.Author.Tests.{le-leb, lt-leb}
 use Rattle.view.specs.declared.View.{View}
 use Rattle.view.specs.AnyLaws.{or-left, or-right, or-none, and-no-left}
 use Rattle.view.specs.Refusals.{isVector, vecLength}
 use Rattle.view.specs.Checks.{vectorOf}
-use Rattle.view.specs.VectorLaws.{lies}
 
 pub thin-rows : (v : View) → v .rows ≤ 1 → isVector v ≡ true
 unfolding isVector
@@ -22,9 +20,6 @@ thin-cols v h = or-right (leb (v .rows) 1) (le-leb (v .cols) 1 h)
 pub no-vector : (v : View) → 1 < v .rows → 1 < v .cols → isVector v ≡ false
 unfolding isVector
 no-vector v p q = or-none (leb (v .rows) 1) (leb (v .cols) 1) (lt-leb (v .rows) 1 p) (lt-leb (v .cols) 1 q)
-
-pub one-row : (v : View) → isVector v ≡ true → 1 < v .cols → v .rows ≤ 1
-one-row v h p = lies v h (v .rows ≤ 1) (λ d. omega (arith, d .thin)) (λ d. d .thin)
 
 pub length-is : (v : View) (m n : ℕ) → isVector v ≡ true → vecLength v ≡ m → eqb m n ≡ vectorOf v n
 unfolding vectorOf

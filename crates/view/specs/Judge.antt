@@ -1,7 +1,7 @@
 -- The answers, their numbers, and the one rule by which a call is judged: the lowest number met.
 use mathlib.Core.Bool.{Bool, true, false, not, _||_}
 use mathlib.Core.List.{List, [], _∷_}
-use Prim.Native.Nat.{ℕ}
+use Prim.Native.Nat.{ℕ, zero, suc}
 use Rattle.view.specs.declared.View.{View}
 use Rattle.view.specs.declared.Answer.{Answer}
 use Rattle.view.specs.declared.Answer.the-variants.{Done, TooLarge, OutOfBounds, ShapeMismatch, Overlap, Singular}
@@ -15,6 +15,15 @@ answerNumber OutOfBounds = 2
 answerNumber ShapeMismatch = 3
 answerNumber Overlap = 4
 answerNumber Singular = 5
+
+-- and back
+unfoldable pub answerOf : ℕ → Answer
+answerOf zero = Done
+answerOf (suc zero) = TooLarge
+answerOf (suc (suc zero)) = OutOfBounds
+answerOf (suc (suc (suc zero))) = ShapeMismatch
+answerOf (suc (suc (suc (suc zero)))) = Overlap
+answerOf (suc (suc (suc (suc (suc n))))) = Singular
 
 -- the answer of a call that is not refused
 abbrev pub isDone : Answer → Bool

@@ -7,7 +7,7 @@ ghost use Rattle.view.specs.Steps.{up, down};
 use crate::View;
 
 // The most rows, and the most columns, that a view may have.
-const LIMIT: usize = 64;
+pub const LIMIT: usize = 64;
 
 pub fn too_large(v: View) -> bool
     ensures { λ r. ⌜ r ≡ tooLarge v ⌝ }
@@ -30,7 +30,7 @@ pub fn down_part(z: i64) -> usize
 }
 
 // Whether a * x + b * y is at most room, for numbers of any size.
-fn within_any(room: usize, a: usize, x: usize, b: usize, y: usize) -> bool
+pub fn within(room: usize, a: usize, x: usize, b: usize, y: usize) -> bool
     ensures { λ r. ⌜ r ≡ leb (a * x + b * y) room ⌝ }
 {
     if a != 0 {
@@ -45,22 +45,6 @@ fn within_any(room: usize, a: usize, x: usize, b: usize, y: usize) -> bool
         }
     }
     true
-}
-
-// The same, by two products where they cannot wrap.
-pub fn within(room: usize, a: usize, x: usize, b: usize, y: usize) -> bool
-    ensures { λ r. ⌜ r ≡ leb (a * x + b * y) room ⌝ }
-{
-    if a < 0x8000_0000 {
-        if x < 0x8000_0000 {
-            if b < 0x8000_0000 {
-                if y < 0x8000_0000 {
-                    return a * x + b * y <= room;
-                }
-            }
-        }
-    }
-    within_any(room, a, x, b, y)
 }
 
 // The last place is below the slab's end, and the first is no less than 0.

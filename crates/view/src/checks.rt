@@ -3,7 +3,8 @@
 ghost use mathlib.Core.Path.{_≡_};
 ghost use mathlib.Core.Bool.{_||_, false};
 ghost use mathlib.Core.List.{[], _∷_};
-ghost use Rattle.view.specs.Judge.{arg, judge, lowestOf};
+ghost use Rattle.view.specs.Steps.{viewOf};
+ghost use Rattle.view.specs.Judge.{answerNumber, answerOf, arg, judge, lowestOf};
 ghost use Rattle.view.specs.Checks as specs;
 use crate::Answer;
 use crate::Side;
@@ -11,20 +12,23 @@ use crate::Trans;
 use crate::View;
 use crate::bounds::out_of_bounds;
 use crate::bounds::too_large;
+use crate::number;
 use crate::overlap::overlap;
+use crate::plain::apart;
+use crate::plain::plain;
 use crate::shapes;
 
-// Whether one of two, and of three, tests passed.
-fn one_of_two(p: bool, q: bool) -> bool
-    ensures { λ r. ⌜ r ≡ p || (q || false) ⌝ }
-{
-    if p { true } else { q }
-}
-
-fn one_of_three(p: bool, q: bool, r: bool) -> bool
+// Whether one of three tests passed.
+fn one_of(p: bool, q: bool, r: bool) -> bool
     ensures { λ s. ⌜ s ≡ p || (q || (r || false)) ⌝ }
 {
-    if p { true } else { one_of_two(q, r) }
+    if p {
+        true
+    } else if q {
+        true
+    } else {
+        r
+    }
 }
 
 // The lowest refusal met, by whether some view is too large, some is out of bounds, and the shapes are wrong.
@@ -44,21 +48,12 @@ fn lowest(large: bool, out: bool, wrong: bool, target: View) -> Answer
     }
 }
 
-// A call with two views, the second its target.
-fn judge2(a: View, la: usize, b: View, lb: usize, shapes: bool) -> Answer
-    ensures { λ r. ⌜ r ≡ judge (arg a la ∷ arg b lb ∷ []) shapes b ⌝ }
-{
-    let large = one_of_two(too_large(a), too_large(b));
-    let out = one_of_two(out_of_bounds(a, la), out_of_bounds(b, lb));
-    lowest(large, out, !shapes, b)
-}
-
-// A call with three views, the third its target.
-fn judge3(a: View, la: usize, b: View, lb: usize, c: View, lc: usize, shapes: bool) -> Answer
+// The lowest refusal of a call with three views, the third its target.
+fn judged(a: View, la: usize, b: View, lb: usize, c: View, lc: usize, shapes: bool) -> Answer
     ensures { λ r. ⌜ r ≡ judge (arg a la ∷ arg b lb ∷ arg c lc ∷ []) shapes c ⌝ }
 {
-    let large = one_of_three(too_large(a), too_large(b), too_large(c));
-    let out = one_of_three(
+    let large = one_of(too_large(a), too_large(b), too_large(c));
+    let out = one_of(
         out_of_bounds(a, la),
         out_of_bounds(b, lb),
         out_of_bounds(c, lc),
@@ -66,17 +61,225 @@ fn judge3(a: View, la: usize, b: View, lb: usize, c: View, lc: usize, shapes: bo
     lowest(large, out, !shapes, c)
 }
 
+fn view_of(start: usize, rows: usize, cols: usize, rs: i64, cs: i64) -> View
+    ensures { λ r. ⌜ r ≡ viewOf start rows cols rs cs ⌝ }
+{
+    View {
+        start,
+        rows,
+        cols,
+        rs,
+        cs,
+    }
+}
+
+// Its number. Views come in parts: whoever calls then need not store them.
+fn number_any(
+    astart: usize,
+    arows: usize,
+    acols: usize,
+    ars: i64,
+    acs: i64,
+    alen: usize,
+    bstart: usize,
+    brows: usize,
+    bcols: usize,
+    brs: i64,
+    bcs: i64,
+    blen: usize,
+    cstart: usize,
+    crows: usize,
+    ccols: usize,
+    crs: i64,
+    ccs: i64,
+    clen: usize,
+    shapes: bool,
+) -> u8
+    ensures { λ r. ⌜ r ≡ answerNumber (judge (arg (viewOf astart arows acols ars acs) alen ∷ arg (viewOf bstart brows bcols brs bcs) blen ∷ arg (viewOf cstart crows ccols crs ccs) clen ∷ []) shapes (viewOf cstart crows ccols crs ccs)) ⌝ }
+{
+    let a = view_of(astart, arows, acols, ars, acs);
+    let b = view_of(bstart, brows, bcols, brs, bcs);
+    let c = view_of(cstart, crows, ccols, crs, ccs);
+    number(judged(a, alen, b, blen, c, clen, shapes))
+}
+
+// The same number, after the quick tests.
+fn number_of(
+    astart: usize,
+    arows: usize,
+    acols: usize,
+    ars: i64,
+    acs: i64,
+    alen: usize,
+    bstart: usize,
+    brows: usize,
+    bcols: usize,
+    brs: i64,
+    bcs: i64,
+    blen: usize,
+    cstart: usize,
+    crows: usize,
+    ccols: usize,
+    crs: i64,
+    ccs: i64,
+    clen: usize,
+    shapes: bool,
+) -> u8
+    ensures { λ r. ⌜ r ≡ answerNumber (judge (arg (viewOf astart arows acols ars acs) alen ∷ arg (viewOf bstart brows bcols brs bcs) blen ∷ arg (viewOf cstart crows ccols crs ccs) clen ∷ []) shapes (viewOf cstart crows ccols crs ccs)) ⌝ }
+{
+    if shapes {
+        if plain(astart, arows, acols, ars, acs, alen) {
+            if plain(bstart, brows, bcols, brs, bcs, blen) {
+                if plain(cstart, crows, ccols, crs, ccs, clen) {
+                    if apart(crows, ccols, crs, ccs) {
+                        return 0;
+                    }
+                }
+            }
+        }
+    }
+    number_any(
+        astart,
+        arows,
+        acols,
+        ars,
+        acs,
+        alen,
+        bstart,
+        brows,
+        bcols,
+        brs,
+        bcs,
+        blen,
+        cstart,
+        crows,
+        ccols,
+        crs,
+        ccs,
+        clen,
+        shapes,
+    )
+}
+
+// The answer of a number.
+fn answer_of(n: u8) -> Answer
+    ensures { λ r. ⌜ r ≡ answerOf n ⌝ }
+{
+    match n {
+        0 => Answer::Done,
+        1 => Answer::TooLarge,
+        2 => Answer::OutOfBounds,
+        3 => Answer::ShapeMismatch,
+        4 => Answer::Overlap,
+        _ => Answer::Singular,
+    }
+}
+
+// A call with two views, the second its target: it is judged as one that has the second twice.
+fn judge2(a: View, la: usize, b: View, lb: usize, shapes: bool) -> Answer
+    ensures { λ r. ⌜ r ≡ judge (arg a la ∷ arg b lb ∷ []) shapes b ⌝ }
+{
+    answer_of(number_of(
+        a.start,
+        a.rows,
+        a.cols,
+        a.rs,
+        a.cs,
+        la,
+        b.start,
+        b.rows,
+        b.cols,
+        b.rs,
+        b.cs,
+        lb,
+        b.start,
+        b.rows,
+        b.cols,
+        b.rs,
+        b.cs,
+        lb,
+        shapes,
+    ))
+}
+
+// A call with three views, the third its target.
+fn judge3(a: View, la: usize, b: View, lb: usize, c: View, lc: usize, shapes: bool) -> Answer
+    ensures { λ r. ⌜ r ≡ judge (arg a la ∷ arg b lb ∷ arg c lc ∷ []) shapes c ⌝ }
+{
+    answer_of(number_of(
+        a.start,
+        a.rows,
+        a.cols,
+        a.rs,
+        a.cs,
+        la,
+        b.start,
+        b.rows,
+        b.cols,
+        b.rs,
+        b.cs,
+        lb,
+        c.start,
+        c.rows,
+        c.cols,
+        c.rs,
+        c.cs,
+        lc,
+        shapes,
+    ))
+}
+
 // The refusal of a call whose shapes cannot go together, as one with a flag out of its range.
 pub fn refuse2(a: View, la: usize, b: View, lb: usize) -> Answer
     ensures { λ r. ⌜ r ≡ judge (arg a la ∷ arg b lb ∷ []) false b ⌝ }
 {
-    judge2(a, la, b, lb, false)
+    answer_of(number_any(
+        a.start,
+        a.rows,
+        a.cols,
+        a.rs,
+        a.cs,
+        la,
+        b.start,
+        b.rows,
+        b.cols,
+        b.rs,
+        b.cs,
+        lb,
+        b.start,
+        b.rows,
+        b.cols,
+        b.rs,
+        b.cs,
+        lb,
+        false,
+    ))
 }
 
 pub fn refuse3(a: View, la: usize, b: View, lb: usize, c: View, lc: usize) -> Answer
     ensures { λ r. ⌜ r ≡ judge (arg a la ∷ arg b lb ∷ arg c lc ∷ []) false c ⌝ }
 {
-    judge3(a, la, b, lb, c, lc, false)
+    answer_of(number_any(
+        a.start,
+        a.rows,
+        a.cols,
+        a.rs,
+        a.cs,
+        la,
+        b.start,
+        b.rows,
+        b.cols,
+        b.rs,
+        b.cs,
+        lb,
+        c.start,
+        c.rows,
+        c.cols,
+        c.rs,
+        c.cs,
+        lc,
+        false,
+    ))
 }
 
 // A view that is only read, by itself: no shape rule looks at it, and nothing is written.

@@ -15,6 +15,7 @@ ghost use Rattle.view.specs.Steps.{Shown};
 mod bounds;
 mod checks;
 mod overlap;
+mod plain;
 mod shapes;
 
 pub use checks::check_gemm;
@@ -195,13 +196,7 @@ pub fn vec_length(v: View) -> usize
     requires { ⌜ isVector v ≡ true ⌝ }
     ensures { λ r. ⌜ r ≡ vecLength v ⌝ }
 {
-    if v.rows == 0 {
-        0
-    } else if v.cols <= 1 {
-        if v.cols == 0 { 0 } else { v.rows }
-    } else {
-        v.cols
-    }
+    v.rows * v.cols
 }
 
 // The vector as one column.

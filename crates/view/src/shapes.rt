@@ -49,14 +49,10 @@ fn shaped(v: View, m: usize, n: usize) -> bool
 fn vector_of(v: View, n: usize) -> bool
     ensures { λ r. ⌜ r ≡ specs.vectorOf v n ⌝ }
 {
-    if v.rows == 0 {
-        0 == n
-    } else if v.cols == 0 {
-        0 == n
-    } else if v.rows == 1 {
-        v.cols == n
-    } else if v.cols == 1 {
-        v.rows == n
+    if v.cols <= 1 {
+        v.rows * v.cols == n
+    } else if v.rows <= 1 {
+        v.rows * v.cols == n
     } else {
         false
     }

@@ -1,63 +1,28 @@
--- `judge3` meets its contract, by those of its parts.
+-- `judge3` meets its contract: the number is the answer's, and the parts are the view's.
 use borrow.Author.Needs.{needs}
-use mathlib.Core.Path.{_∙_}
-use mathlib.Core.Bool.{false, not, _||_}
-use Rattle.view.specs.Judge.{judge, lowestOf}
+use mathlib.Core.Path.{ap, _∙_}
+use Rattle.view.specs.Judge.{answerOf}
+use Rattle.view.proofs.Runs.{parts-are, same-judge, answer-back}
 use Rattle.view.proofs.checks.judge3.Statement.{statement}
 use Rattle.view.proofs.checks.judge3.Tie as tie
 
-too-large-requires : tie.Need-too-large-requires
-too-large-requires c κs = search needs
+number-of-requires : tie.Need-number-of-requires
+number-of-requires c κs = search needs
 
-too-large-requires-2 : tie.Need-too-large-requires-2
-too-large-requires-2 c κs = search needs
-
-too-large-requires-3 : tie.Need-too-large-requires-3
-too-large-requires-3 c κs = search needs
-
-one-of-three-requires : tie.Need-one-of-three-requires
-one-of-three-requires c κs = search needs
-
-out-of-bounds-requires : tie.Need-out-of-bounds-requires
-out-of-bounds-requires c κs = search needs
-
-out-of-bounds-requires-2 : tie.Need-out-of-bounds-requires-2
-out-of-bounds-requires-2 c κs = search needs
-
-out-of-bounds-requires-3 : tie.Need-out-of-bounds-requires-3
-out-of-bounds-requires-3 c κs = search needs
-
-one-of-three-requires-2 : tie.Need-one-of-three-requires-2
-one-of-three-requires-2 c κs = search needs
-
-lowest-requires : tie.Need-lowest-requires
-lowest-requires c κs = search needs
+answer-of-requires : tie.Need-answer-of-requires
+answer-of-requires c κs = search needs
 
 returns : tie.Need-returns
-unfolding judge
 returns c =
-    let a = c .before .before .before .before .before .before .before .before .before .args in
-    let t0 = c .before .before .before .before .before .before .before .before .too-large .ensures in
-    let t1 = c .before .before .before .before .before .before .before .too-large2 .ensures in
-    let t2 = c .before .before .before .before .before .before .too-large3 .ensures in
-    let u0 = c .before .before .before .before .out-of-bounds .ensures in
-    let u1 = c .before .before .before .out-of-bounds2 .ensures in
-    let u2 = c .before .before .out-of-bounds3 .ensures in
-    let x = c .before .before .before .before .before .one-of-three .ensures ∙ (λ i. t0 i || (t1 i || (t2 i || false))) in
-    let y = c .before .one-of-three2 .ensures ∙ (λ i. u0 i || (u1 i || (u2 i || false))) in
-    c .lowest .ensures ∙ (λ i. lowestOf (x i) (y i) (not (a .shapes)) (a .c))
+    let s = c .before .before .before .before .before .before .before .before in
+    let a = c .before .before .before .before .before .before .before .struct-told .given .1 .1 .1 in
+    let b = c .before .before .before .before .before .struct-told3 .given .1 .1 .1 in
+    let t = c .before .before .before .struct-told5 .given .1 .1 .1 in
+    c .answer-of .ensures ∙ ap answerOf (c .before .number-of .ensures) ∙ answer-back _
+    ∙ same-judge _ _ _ _ _ _ _ _ _ _
+    (parts-are (s .args .a) (record { sfits = a .0 .1 }) (record { sfits = a .1 .0 .1 }))
+    (parts-are (s .args .b) (record { sfits = b .0 .1 }) (record { sfits = b .1 .0 .1 }))
+    (parts-are (s .args .c) (record { sfits = t .0 .1 }) (record { sfits = t .1 .0 .1 }))
 
 pub judge3-spec : {M : Type 1} → statement M
-judge3-spec =
-    tie.close
-    (tie.spec
-    too-large-requires
-    too-large-requires-2
-    too-large-requires-3
-    one-of-three-requires
-    out-of-bounds-requires
-    out-of-bounds-requires-2
-    out-of-bounds-requires-3
-    one-of-three-requires-2
-    lowest-requires
-    returns)
+judge3-spec = tie.close (tie.spec number-of-requires answer-of-requires returns)
