@@ -1,6 +1,5 @@
 -- A loop over the columns of a row that are in the named triangle is the fold over the row: the fold skips the others.
 use Prim.Native.Nat.{ℕ, _+_, _≤_, _<_}
-use mathlib.Core.Bool.{true, false, true≢false}
 use mathlib.Core.List.{List}
 use mathlib.Core.Path.{_≡_, refl, sym, ap, _∙_}
 use native.Mathlib.Omega.{arith}
@@ -13,29 +12,13 @@ use Rattle.view.specs.declared.UpLo.the-variants.{Upper, Lower}
 use Rattle.view.specs.Triangle.{inTriangle}
 use Rattle.view.specs.Place.{index}
 use Rattle.slab.specs.Elem.{elem}
-use Rattle.slab.specs.Update.{Mask, Change, step, row}
+use Rattle.slab.specs.Update.{Change, row}
 use Rattle.slab.proofs.UpdateLaws.{row-both, row-start}
-use Rattle.slab.proofs.LoopLaws.{row-next}
+use Rattle.slab.proofs.LoopLaws.{row-skip}
+pub use Rattle.slab.proofs.LoopLaws.{span, span-start, span-next}
 use Rattle.rank_plan.specs.Columns.{firstCol, endCol}
 use Rattle.rank_plan.specs.Change.{replaced}
 use Rattle.rank_plan.specs.Ready.{Square}
-
--- ---- the fold, over any mask
-
-module _ (K : Kind) (v : View) (mask : Mask) (u : Change K) (i : ℕ) where
-  -- elements that the mask does not admit change nothing
-  pub row-skip : (a n : ℕ) → a ≤ n → ((j : ℕ) → a ≤ j → j < n → mask i j ≡ false) → (s : List (K .Cell)) → row K v mask u i n s ≡ row K v mask u i a s
-  row-skip a n h f s =
-      row-both K v mask mask u u (λ p q. p ≡ row K v mask u i a s) i a n h
-      (λ j l g. (refl, λ m p q e. absurd (true≢false (sym m ∙ f j l g))))
-      s
-      s
-      refl
-
-  -- an admitted element is replaced
-  pub step-put : (j : ℕ) (s : List (K .Cell)) → mask i j ≡ true → step K v mask u i j s ≡ replaced K v i j (u i j) s
-  unfolding step
-  step-put j s h = rw h
 
 -- ---- the columns in the named triangle
 
@@ -47,21 +30,9 @@ pub first-le : (uplo : UpLo) (i n : ℕ) → i < n → firstCol uplo i ≤ endCo
 first-le Upper i n h = omega arith
 first-le Lower i n h = omega arith
 
--- ---- the fold from column a on, as a loop meets it: it begins at a, goes on by one, and ends where the triangle does
+-- ---- the fold from column a on, as a loop meets it: it ends where the triangle does
 
-module _ (K : Kind) (v : View) (u : Change K) (i : ℕ) where
-  abbrev pub span : ℕ → ℕ → List (K .Cell) → List (K .Cell)
-  span a n s = row K v (λ r j. leb a j) u i n s
-
-  pub span-start : (a : ℕ) (s : List (K .Cell)) → s ≡ span a a s
-  span-start a s =
-      sym (row-skip K v (λ r j. leb a j) u i 0 a (omega arith) (λ j l g. lt-leb a j g) s ∙ row-start K v (λ r j. leb a j) u s i)
-
-  pub span-next : (a j : ℕ) (s₀ s t : List (K .Cell)) → a ≤ j → s ≡ span a j s₀ → t ≡ replaced K v i j (u i j) s → t ≡ span a (j + 1) s₀
-  span-next a j s₀ s t h p q =
-      row-next K v (λ r j. leb a j) u s₀ s i j t p (q ∙ sym (step-put K v (λ r j. leb a j) u i j s (le-leb a j h)))
-
--- its columns are those in the named triangle
+-- the loop's columns are those in the named triangle
 like : (uplo : UpLo) (i n j : ℕ) → j < endCol uplo i n → leb (firstCol uplo i) j ≡ inTriangle uplo i j
 like Upper i n j h = refl
 like Lower i n j h = le-leb 0 j (omega arith) ∙ sym (le-leb j i (omega arith))

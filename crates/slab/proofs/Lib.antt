@@ -2,3 +2,4 @@
 pub mod UpdateLaws
 pub mod LoopLaws
 pub mod Shown
+pub mod RunLaws

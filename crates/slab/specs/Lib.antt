@@ -2,3 +2,4 @@
 pub mod Elem
 pub mod Update
 pub mod Distinct
+pub mod Run
