@@ -1,10 +1,13 @@
 // The products of complex numbers.
 
 ghost use mathlib.Core.Path.{_≡_};
+ghost use Prim.Native.Nat.{_<_, _-_};
 ghost use Rattle.number.specs.Kind.{complex};
 ghost use Rattle.number.specs.Scaling.{scaleByComplex, times};
-ghost use Rattle.slab.specs.Elem.{elem, lent, Shows};
-ghost use Rattle.blas.specs.Matrix.{dot as dotOf};
+ghost use Rattle.view.specs.Triangle.{inTriangle};
+ghost use Rattle.slab.specs.Run.{plain, more};
+ghost use Rattle.slab.specs.Elem.{lent, Shows};
+ghost use Rattle.slab.specs.Update.{everywhere, row as rowOf, update};
 ghost use Rattle.blas.specs.Outcome.{Gives};
 ghost use Rattle.blas.specs.Gemm;
 ghost use Rattle.blas.specs.Gemv;
@@ -14,25 +17,23 @@ ghost use Rattle.blas.specs.Herk;
 ghost use Rattle.blas.specs.Symm;
 ghost use Rattle.blas.specs.Syrk;
 ghost use Rattle.product_plan.specs.Plans.{ReadySided, sidedWork};
-ghost use Rattle.product_plan.specs.Plan.{reading, planPut, planStep, planRow, work, Factors, Ready, ReadyAt, ReadyRow};
-ghost use Rattle.product_plan.specs.Runs.{more, Spans, Alike, plain};
+ghost use Rattle.product_plan.specs.Plan.{term, replaced, planChange, foldedChange, turnOf, Spans, Ready, FoldedReady, ByRow};
 use number::BetaComplex;
 use number::Complex;
 use number::Multiplier;
+use product_plan::Factors;
+use product_plan::Folded;
 use product_plan::Plan;
-use product_plan::Reading;
-use product_plan::admitted;
-use product_plan::alike;
+use product_plan::end_col;
+use product_plan::first_col;
 use product_plan::gemm_plan;
 use product_plan::gemv_plan;
 use product_plan::hemv_plan;
 use product_plan::herk_plan;
 use product_plan::left_plan;
 use product_plan::right_plan;
-use product_plan::straight;
 use product_plan::syrk_plan;
 use product_plan::turn_at;
-use product_plan::turned;
 use slab::elem_complex;
 use slab::get_complex;
 use slab::put_complex;
@@ -62,114 +63,45 @@ fn at(conjugated: bool, s: &[f64], v: View, i: usize, j: usize) -> Complex
     if conjugated { x.conj() } else { x }
 }
 
-// The sum with n products more: row i of one view by column j of another, from `from` on.
+// The sum with the terms of element (i, j) from `from` to before `end` added.
 fn add_run(
-    ca: bool,
+    f: Factors,
     a: &[f64],
-    va: View,
-    cb: bool,
     b: &[f64],
-    vb: View,
     i: usize,
     j: usize,
     from: usize,
-    n: usize,
+    end: usize,
     sum: Complex,
 ) -> Complex
-    requires { ⌜ Spans va (complex .count (now a)) vb (complex .count (now b)) i j from n ⌝ }
-    ensures { λ r. ⌜ r ≡ more complex (sum) (λ p. complex .mul (plain complex ca (now (a .entry)) va i p) (plain complex cb (now (b .entry)) vb p j)) from n ⌝ }
+    requires { ⌜ Spans f (complex .count (now a)) (complex .count (now b)) i j from end ⌝ }
+    ensures { λ r. ⌜ r ≡ more complex sum (term complex f (now (a .entry)) (now (b .entry)) i j) from (end - from) ⌝ }
 {
     let mut total = sum;
-    let mut k = 0;
-    while k < n {
-        let p = from + k;
-        total = total.add(at(ca, a, va, i, p).mul(at(cb, b, vb, p, j)));
-        k += 1;
+    let mut p = from;
+    while p < end {
+        total = total.add(at(f.left_conj, a, f.left, i, p).mul(at(f.right_conj, b, f.right, p, j)));
+        p += 1;
     }
     total
 }
 
-// The same of two operands, whose terms are read alike.
-fn add_alike(
-    l: Reading,
-    a: &[f64],
-    va: View,
-    r: Reading,
-    b: &[f64],
-    vb: View,
+// Element (i, j) of the target scaled, with alpha times the sum added.
+fn settle(
+    v: View,
+    alpha: Multiplier,
+    beta: BetaComplex,
+    c: &mut [f64],
     i: usize,
     j: usize,
-    from: usize,
-    n: usize,
     sum: Complex,
-) -> Complex
-    requires { ⌜ Alike l va (complex .count (now a)) r vb (complex .count (now b)) i j from n ⌝ }
-    ensures { λ t. ⌜ t ≡ more complex (sum) (λ p. complex .mul (reading complex l (elem complex (now (a .entry)) va) i p) (reading complex r (elem complex (now (b .entry)) vb) p j)) from n ⌝ }
+)
+    requires { ⌜ Shows v (complex .count (now c)) i j ⌝ }
+    ensures { λ _. ⌜ now (c .exit) ≡ replaced complex v i j (λ x. complex .add (scaleByComplex beta x) (times alpha sum)) (now (c .entry)) ⌝ }
 {
-    let tl = turn_at(l, i, from);
-    let tr = turn_at(r, from, j);
-    let left = turned(tl.transposed, va);
-    let right = turned(tr.transposed, vb);
-    add_run(
-        tl.conjugated,
-        a,
-        left,
-        tr.conjugated,
-        b,
-        right,
-        i,
-        j,
-        from,
-        n,
-        sum,
-    )
-}
-
-// Element (i, j) of the product of two operands, of which n elements each go into it, run after run.
-fn dot_in_runs(
-    l: Reading,
-    a: &[f64],
-    va: View,
-    r: Reading,
-    b: &[f64],
-    vb: View,
-    n: usize,
-    i: usize,
-    j: usize,
-) -> Complex
-    requires { ⌜ Factors l va (complex .count (now a)) r vb (complex .count (now b)) n i j ⌝ }
-    ensures { λ t. ⌜ t ≡ dotOf complex n (reading complex l (elem complex (now (a .entry)) va)) (reading complex r (elem complex (now (b .entry)) vb)) i j ⌝ }
-{
-    let mut sum = Complex::ZERO;
-    let mut p = 0;
-    while p < n {
-        let terms = alike(l, r, i, j, p, n);
-        sum = add_alike(l, a, va, r, b, vb, i, j, p, terms, sum);
-        p += terms;
-    }
-    sum
-}
-
-// The same, at once where both operands are read alike in all their elements.
-fn dot(
-    l: Reading,
-    a: &[f64],
-    va: View,
-    r: Reading,
-    b: &[f64],
-    vb: View,
-    n: usize,
-    i: usize,
-    j: usize,
-) -> Complex
-    requires { ⌜ Factors l va (complex .count (now a)) r vb (complex .count (now b)) n i j ⌝ }
-    ensures { λ t. ⌜ t ≡ dotOf complex n (reading complex l (elem complex (now (a .entry)) va)) (reading complex r (elem complex (now (b .entry)) vb)) i j ⌝ }
-{
-    if straight(l, r) {
-        add_alike(l, a, va, r, b, vb, i, j, 0, n, Complex::ZERO)
-    } else {
-        dot_in_runs(l, a, va, r, b, vb, n, i, j)
-    }
+    let k = place(v, i, j);
+    let old = get_complex(c, k);
+    put_complex(c, k, beta.scale(old).add(alpha.times(sum)));
 }
 
 // Element (i, j) of the target.
@@ -183,35 +115,11 @@ fn entry(
     i: usize,
     j: usize,
 )
-    requires { ⌜ ReadyAt plan (complex .count (now a)) (complex .count (now b)) (complex .count (now c)) i j ⌝ }
-    ensures { λ _. ⌜ now (c .exit) ≡ planPut complex plan (scaleByComplex beta) (times alpha) (now (a .entry)) (now (b .entry)) i j (now (c .entry)) ⌝ }
+    requires { ⌜ Ready plan (complex .count (now a)) (complex .count (now b)) (complex .count (now c)) × (i < plan .target .rows) × (j < plan .target .cols) ⌝ }
+    ensures { λ _. ⌜ now (c .exit) ≡ replaced complex (plan .target) i j (planChange complex plan (scaleByComplex beta) (times alpha) (now (a .entry)) (now (b .entry)) i j) (now (c .entry)) ⌝ }
 {
-    let left = plan.left;
-    let right = plan.right;
-    let sum = dot(left, a, plan.a, right, b, plan.b, plan.terms, i, j);
-    let k = place(plan.target, i, j);
-    let old = get_complex(c, k);
-    put_complex(c, k, beta.scale(old).add(alpha.times(sum)));
-}
-
-// Element (i, j) of the target, where the plan writes it.
-fn step(
-    plan: Plan,
-    a: &[f64],
-    b: &[f64],
-    alpha: Multiplier,
-    beta: BetaComplex,
-    c: &mut [f64],
-    i: usize,
-    j: usize,
-)
-    requires { ⌜ ReadyAt plan (complex .count (now a)) (complex .count (now b)) (complex .count (now c)) i j ⌝ }
-    ensures { λ _. ⌜ now (c .exit) ≡ planStep complex plan (scaleByComplex beta) (times alpha) (now (a .entry)) (now (b .entry)) i j (now (c .entry)) ⌝ }
-{
-    let mask = plan.mask;
-    if admitted(mask, i, j) {
-        entry(plan, a, b, alpha, beta, c, i, j);
-    }
+    let sum = add_run(plan.factors, a, b, i, j, 0, plan.terms, Complex::ZERO);
+    settle(plan.target, alpha, beta, c, i, j, sum);
 }
 
 // Row i of the target.
@@ -224,13 +132,13 @@ fn row(
     c: &mut [f64],
     i: usize,
 )
-    requires { ⌜ ReadyRow plan (complex .count (now a)) (complex .count (now b)) (complex .count (now c)) i ⌝ }
-    ensures { λ _. ⌜ now (c .exit) ≡ planRow complex plan (scaleByComplex beta) (times alpha) (now (a .entry)) (now (b .entry)) i (plan .target .cols) (now (c .entry)) ⌝ }
+    requires { ⌜ Ready plan (complex .count (now a)) (complex .count (now b)) (complex .count (now c)) × (i < plan .target .rows) ⌝ }
+    ensures { λ _. ⌜ now (c .exit) ≡ rowOf complex (plan .target) everywhere (planChange complex plan (scaleByComplex beta) (times alpha) (now (a .entry)) (now (b .entry))) i (plan .target .cols) (now (c .entry)) ⌝ }
 {
     let n = cols(plan.target);
     let mut j = 0;
     while j < n {
-        step(plan, a, b, alpha, beta, c, i, j);
+        entry(plan, a, b, alpha, beta, c, i, j);
         j += 1;
     }
 }
@@ -238,12 +146,205 @@ fn row(
 // The whole target.
 fn run(plan: Plan, a: &[f64], b: &[f64], alpha: Multiplier, beta: BetaComplex, c: &mut [f64])
     requires { ⌜ Ready plan (complex .count (now a)) (complex .count (now b)) (complex .count (now c)) ⌝ }
-    ensures { λ _. ⌜ now (c .exit) ≡ work complex plan (scaleByComplex beta) (times alpha) (now (a .entry)) (now (b .entry)) (now (c .entry)) ⌝ }
+    ensures { λ _. ⌜ now (c .exit) ≡ update complex (plan .target) everywhere (planChange complex plan (scaleByComplex beta) (times alpha) (now (a .entry)) (now (b .entry))) (now (c .entry)) ⌝ }
 {
     let m = rows(plan.target);
     let mut i = 0;
     while i < m {
         row(plan, a, b, alpha, beta, c, i);
+        i += 1;
+    }
+}
+
+// Row i of the target's named triangle.
+fn triangle_row(
+    uplo: UpLo,
+    plan: Plan,
+    a: &[f64],
+    b: &[f64],
+    alpha: Multiplier,
+    beta: BetaComplex,
+    c: &mut [f64],
+    i: usize,
+)
+    requires { ⌜ Ready plan (complex .count (now a)) (complex .count (now b)) (complex .count (now c)) × (i < plan .target .rows) × (i < plan .target .cols) ⌝ }
+    ensures { λ _. ⌜ now (c .exit) ≡ rowOf complex (plan .target) (inTriangle uplo) (planChange complex plan (scaleByComplex beta) (times alpha) (now (a .entry)) (now (b .entry))) i (plan .target .cols) (now (c .entry)) ⌝ }
+{
+    let end = end_col(uplo, i, cols(plan.target));
+    let mut j = first_col(uplo, i);
+    while j < end {
+        entry(plan, a, b, alpha, beta, c, i, j);
+        j += 1;
+    }
+}
+
+// The whole of the target's named triangle.
+fn run_triangle(
+    uplo: UpLo,
+    plan: Plan,
+    a: &[f64],
+    b: &[f64],
+    alpha: Multiplier,
+    beta: BetaComplex,
+    c: &mut [f64],
+)
+    requires { ⌜ Ready plan (complex .count (now a)) (complex .count (now b)) (complex .count (now c)) × (plan .target .rows ≡ plan .target .cols) ⌝ }
+    ensures { λ _. ⌜ now (c .exit) ≡ update complex (plan .target) (inTriangle uplo) (planChange complex plan (scaleByComplex beta) (times alpha) (now (a .entry)) (now (b .entry))) (now (c .entry)) ⌝ }
+{
+    let m = rows(plan.target);
+    let mut i = 0;
+    while i < m {
+        triangle_row(uplo, plan, a, b, alpha, beta, c, i);
+        i += 1;
+    }
+}
+
+// The whole target, which is a column.
+fn run_column(plan: Plan, a: &[f64], b: &[f64], alpha: Multiplier, beta: BetaComplex, c: &mut [f64])
+    requires { ⌜ Ready plan (complex .count (now a)) (complex .count (now b)) (complex .count (now c)) × (plan .target .cols ≡ 1) ⌝ }
+    ensures { λ _. ⌜ now (c .exit) ≡ update complex (plan .target) everywhere (planChange complex plan (scaleByComplex beta) (times alpha) (now (a .entry)) (now (b .entry))) (now (c .entry)) ⌝ }
+{
+    let m = rows(plan.target);
+    let mut i = 0;
+    while i < m {
+        entry(plan, a, b, alpha, beta, c, i, 0);
+        i += 1;
+    }
+}
+
+// Element (i, j) of a folded plan's target, where the sum turns after k terms.
+fn turned_entry(
+    plan: Folded,
+    k: usize,
+    a: &[f64],
+    b: &[f64],
+    alpha: Multiplier,
+    beta: BetaComplex,
+    c: &mut [f64],
+    i: usize,
+    j: usize,
+)
+    requires { ⌜ FoldedReady plan (complex .count (now a)) (complex .count (now b)) (complex .count (now c)) × (i < plan .target .rows) × (j < plan .target .cols) × (k ≡ turnOf (plan .turn) i j) ⌝ }
+    ensures { λ _. ⌜ now (c .exit) ≡ replaced complex (plan .target) i j (foldedChange complex plan (scaleByComplex beta) (times alpha) (now (a .entry)) (now (b .entry)) i j) (now (c .entry)) ⌝ }
+{
+    let n = plan.terms;
+    let head = add_run(plan.head, a, b, i, j, 0, k, Complex::ZERO);
+    let sum = add_run(plan.tail, a, b, i, j, k, n, head);
+    settle(plan.target, alpha, beta, c, i, j, sum);
+}
+
+// The same, with its turn found.
+fn folded_entry(
+    plan: Folded,
+    a: &[f64],
+    b: &[f64],
+    alpha: Multiplier,
+    beta: BetaComplex,
+    c: &mut [f64],
+    i: usize,
+    j: usize,
+)
+    requires { ⌜ FoldedReady plan (complex .count (now a)) (complex .count (now b)) (complex .count (now c)) × (i < plan .target .rows) × (j < plan .target .cols) ⌝ }
+    ensures { λ _. ⌜ now (c .exit) ≡ replaced complex (plan .target) i j (foldedChange complex plan (scaleByComplex beta) (times alpha) (now (a .entry)) (now (b .entry)) i j) (now (c .entry)) ⌝ }
+{
+    let turn = plan.turn;
+    let k = turn_at(turn, i, j, plan.terms);
+    turned_entry(plan, k, a, b, alpha, beta, c, i, j);
+}
+
+// Row i, whose elements' sums turn at one place.
+fn left_row(
+    plan: Folded,
+    a: &[f64],
+    b: &[f64],
+    alpha: Multiplier,
+    beta: BetaComplex,
+    c: &mut [f64],
+    i: usize,
+)
+    requires { ⌜ FoldedReady plan (complex .count (now a)) (complex .count (now b)) (complex .count (now c)) × ByRow plan × (i < plan .target .rows) ⌝ }
+    ensures { λ _. ⌜ now (c .exit) ≡ rowOf complex (plan .target) everywhere (foldedChange complex plan (scaleByComplex beta) (times alpha) (now (a .entry)) (now (b .entry))) i (plan .target .cols) (now (c .entry)) ⌝ }
+{
+    let turn = plan.turn;
+    let k = turn_at(turn, i, 0, plan.terms);
+    let n = cols(plan.target);
+    let mut j = 0;
+    while j < n {
+        turned_entry(plan, k, a, b, alpha, beta, c, i, j);
+        j += 1;
+    }
+}
+
+// The whole target, with such rows.
+fn run_left(plan: Folded, a: &[f64], b: &[f64], alpha: Multiplier, beta: BetaComplex, c: &mut [f64])
+    requires { ⌜ FoldedReady plan (complex .count (now a)) (complex .count (now b)) (complex .count (now c)) × ByRow plan ⌝ }
+    ensures { λ _. ⌜ now (c .exit) ≡ update complex (plan .target) everywhere (foldedChange complex plan (scaleByComplex beta) (times alpha) (now (a .entry)) (now (b .entry))) (now (c .entry)) ⌝ }
+{
+    let m = rows(plan.target);
+    let mut i = 0;
+    while i < m {
+        left_row(plan, a, b, alpha, beta, c, i);
+        i += 1;
+    }
+}
+
+// Row i, whose elements turn each at its own place.
+fn right_row(
+    plan: Folded,
+    a: &[f64],
+    b: &[f64],
+    alpha: Multiplier,
+    beta: BetaComplex,
+    c: &mut [f64],
+    i: usize,
+)
+    requires { ⌜ FoldedReady plan (complex .count (now a)) (complex .count (now b)) (complex .count (now c)) × (i < plan .target .rows) ⌝ }
+    ensures { λ _. ⌜ now (c .exit) ≡ rowOf complex (plan .target) everywhere (foldedChange complex plan (scaleByComplex beta) (times alpha) (now (a .entry)) (now (b .entry))) i (plan .target .cols) (now (c .entry)) ⌝ }
+{
+    let n = cols(plan.target);
+    let mut j = 0;
+    while j < n {
+        folded_entry(plan, a, b, alpha, beta, c, i, j);
+        j += 1;
+    }
+}
+
+// The whole target, with such rows.
+fn run_right(
+    plan: Folded,
+    a: &[f64],
+    b: &[f64],
+    alpha: Multiplier,
+    beta: BetaComplex,
+    c: &mut [f64],
+)
+    requires { ⌜ FoldedReady plan (complex .count (now a)) (complex .count (now b)) (complex .count (now c)) ⌝ }
+    ensures { λ _. ⌜ now (c .exit) ≡ update complex (plan .target) everywhere (foldedChange complex plan (scaleByComplex beta) (times alpha) (now (a .entry)) (now (b .entry))) (now (c .entry)) ⌝ }
+{
+    let m = rows(plan.target);
+    let mut i = 0;
+    while i < m {
+        right_row(plan, a, b, alpha, beta, c, i);
+        i += 1;
+    }
+}
+
+// The whole target, which is a column.
+fn run_left_column(
+    plan: Folded,
+    a: &[f64],
+    b: &[f64],
+    alpha: Multiplier,
+    beta: BetaComplex,
+    c: &mut [f64],
+)
+    requires { ⌜ FoldedReady plan (complex .count (now a)) (complex .count (now b)) (complex .count (now c)) × (plan .target .cols ≡ 1) ⌝ }
+    ensures { λ _. ⌜ now (c .exit) ≡ update complex (plan .target) everywhere (foldedChange complex plan (scaleByComplex beta) (times alpha) (now (a .entry)) (now (b .entry))) (now (c .entry)) ⌝ }
+{
+    let m = rows(plan.target);
+    let mut i = 0;
+    while i < m {
+        folded_entry(plan, a, b, alpha, beta, c, i, 0);
         i += 1;
     }
 }
@@ -264,7 +365,7 @@ pub fn gemv(
 {
     let answer = check_gemv(trans, va, a.len() / 2, vx, x.len() / 2, vy, y.len() / 2);
     if passed(answer) {
-        run(
+        run_column(
             gemv_plan(trans, va, vx, vy),
             a,
             x,
@@ -292,7 +393,7 @@ pub fn hemv(
 {
     let answer = check_hemv(va, a.len() / 2, vx, x.len() / 2, vy, y.len() / 2);
     if passed(answer) {
-        run(
+        run_left_column(
             hemv_plan(uplo, va, vx, vy),
             a,
             x,
@@ -333,10 +434,11 @@ pub fn gemm(
     answer
 }
 
-// A, read as m says, on a side of B.
+// A, of which the named triangle is read, on a side of B; its other elements are mirrored, and conjugated where asked.
 fn sided(
     side: Side,
-    m: Reading,
+    conj: bool,
+    uplo: UpLo,
     alpha: Multiplier,
     a: &[f64],
     va: View,
@@ -346,12 +448,26 @@ fn sided(
     c: &mut [f64],
     vc: View,
 )
-    requires { ⌜ ReadySided side m va (complex .count (now a)) vb (complex .count (now b)) vc (complex .count (now c)) ⌝ }
-    ensures { λ _. ⌜ now (c .exit) ≡ sidedWork complex side m va vb vc (scaleByComplex beta) (times alpha) (now (a .entry)) (now (b .entry)) (now (c .entry)) ⌝ }
+    requires { ⌜ ReadySided side conj uplo va (complex .count (now a)) vb (complex .count (now b)) vc (complex .count (now c)) ⌝ }
+    ensures { λ _. ⌜ now (c .exit) ≡ sidedWork complex side conj uplo va vb vc (scaleByComplex beta) (times alpha) (now (a .entry)) (now (b .entry)) (now (c .entry)) ⌝ }
 {
     match side {
-        Side::Left => run(left_plan(m, va, vb, vc), a, b, alpha, beta, c),
-        Side::Right => run(right_plan(m, va, vb, vc), b, a, alpha, beta, c),
+        Side::Left => run_left(
+            left_plan(conj, uplo, va, vb, rows(vc), vc),
+            a,
+            b,
+            alpha,
+            beta,
+            c,
+        ),
+        Side::Right => run_right(
+            right_plan(conj, uplo, va, vb, cols(vc), vc),
+            b,
+            a,
+            alpha,
+            beta,
+            c,
+        ),
     }
 }
 
@@ -374,7 +490,8 @@ pub fn symm(
     if passed(answer) {
         sided(
             side,
-            Reading::Symmetric(uplo),
+            false,
+            uplo,
             Multiplier::Number(alpha),
             a,
             va,
@@ -407,7 +524,8 @@ pub fn hemm(
     if passed(answer) {
         sided(
             side,
-            Reading::Hermitian(uplo),
+            true,
+            uplo,
             Multiplier::Number(alpha),
             a,
             va,
@@ -436,8 +554,9 @@ pub fn syrk(
 {
     let answer = check_syrk(trans, va, a.len() / 2, vc, c.len() / 2);
     if passed(answer) {
-        run(
-            syrk_plan(uplo, trans, va, vc),
+        run_triangle(
+            uplo,
+            syrk_plan(trans, va, vc),
             a,
             a,
             Multiplier::Number(alpha),
@@ -463,8 +582,9 @@ pub fn herk(
 {
     let answer = check_herk(trans, va, a.len() / 2, vc, c.len() / 2);
     if passed(answer) {
-        run(
-            herk_plan(uplo, trans, va, vc),
+        run_triangle(
+            uplo,
+            herk_plan(trans, va, vc),
             a,
             a,
             Multiplier::Real(alpha),

@@ -1,10 +1,13 @@
 // The products of f32.
 
 ghost use mathlib.Core.Path.{_≡_};
+ghost use Prim.Native.Nat.{_<_, _-_};
 ghost use Rattle.number.specs.Kind.{real32};
 ghost use Rattle.number.specs.Scaling.{scaleBy32};
-ghost use Rattle.slab.specs.Elem.{elem, lent};
-ghost use Rattle.blas.specs.Matrix.{dot as dotOf};
+ghost use Rattle.view.specs.Triangle.{inTriangle};
+ghost use Rattle.slab.specs.Run.{more};
+ghost use Rattle.slab.specs.Elem.{lent, Shows};
+ghost use Rattle.slab.specs.Update.{everywhere, row as rowOf, update};
 ghost use Rattle.blas.specs.Outcome.{Gives};
 ghost use Rattle.blas.specs.Gemm;
 ghost use Rattle.blas.specs.Gemv;
@@ -14,24 +17,22 @@ ghost use Rattle.blas.specs.Herk;
 ghost use Rattle.blas.specs.Symm;
 ghost use Rattle.blas.specs.Syrk;
 ghost use Rattle.product_plan.specs.Plans.{ReadySided, sidedWork};
-ghost use Rattle.product_plan.specs.Plan.{reading, planPut, planStep, planRow, work, Factors, Ready, ReadyAt, ReadyRow};
-ghost use Rattle.product_plan.specs.Runs.{more, Spans, Alike};
+ghost use Rattle.product_plan.specs.Plan.{term, replaced, planChange, foldedChange, turnOf, Spans, Ready, FoldedReady, ByRow};
 use number::Beta32;
 use number::Real32;
+use product_plan::Factors;
+use product_plan::Folded;
 use product_plan::Plan;
-use product_plan::Reading;
-use product_plan::admitted;
-use product_plan::alike;
+use product_plan::end_col;
+use product_plan::first_col;
 use product_plan::gemm_plan;
 use product_plan::gemv_plan;
 use product_plan::hemv_plan;
 use product_plan::herk_plan;
 use product_plan::left_plan;
 use product_plan::right_plan;
-use product_plan::straight;
 use product_plan::syrk_plan;
 use product_plan::turn_at;
-use product_plan::turned;
 use slab::elem32;
 use slab::get32;
 use slab::put32;
@@ -52,100 +53,37 @@ use view::passed;
 use view::place;
 use view::rows;
 
-// The sum with n products more: row i of one view by column j of another, from `from` on.
+// The sum with the terms of element (i, j) from `from` to before `end` added.
 fn add_run(
+    f: Factors,
     a: &[f32],
-    va: View,
     b: &[f32],
-    vb: View,
     i: usize,
     j: usize,
     from: usize,
-    n: usize,
+    end: usize,
     sum: Real32,
 ) -> Real32
-    requires { ⌜ Spans va (real32 .count (now a)) vb (real32 .count (now b)) i j from n ⌝ }
-    ensures { λ r. ⌜ r .0 ≡ more real32 (sum .0) (λ p. real32 .mul (elem real32 (now (a .entry)) va i p) (elem real32 (now (b .entry)) vb p j)) from n ⌝ }
+    requires { ⌜ Spans f (real32 .count (now a)) (real32 .count (now b)) i j from end ⌝ }
+    ensures { λ r. ⌜ r .0 ≡ more real32 (sum .0) (term real32 f (now (a .entry)) (now (b .entry)) i j) from (end - from) ⌝ }
 {
     let mut total = sum;
-    let mut k = 0;
-    while k < n {
-        let p = from + k;
-        total = total.add(elem32(a, va, i, p).mul(elem32(b, vb, p, j)));
-        k += 1;
+    let mut p = from;
+    while p < end {
+        total = total.add(elem32(a, f.left, i, p).mul(elem32(b, f.right, p, j)));
+        p += 1;
     }
     total
 }
 
-// The same of two operands, whose terms are read alike.
-fn add_alike(
-    l: Reading,
-    a: &[f32],
-    va: View,
-    r: Reading,
-    b: &[f32],
-    vb: View,
-    i: usize,
-    j: usize,
-    from: usize,
-    n: usize,
-    sum: Real32,
-) -> Real32
-    requires { ⌜ Alike l va (real32 .count (now a)) r vb (real32 .count (now b)) i j from n ⌝ }
-    ensures { λ t. ⌜ t .0 ≡ more real32 (sum .0) (λ p. real32 .mul (reading real32 l (elem real32 (now (a .entry)) va) i p) (reading real32 r (elem real32 (now (b .entry)) vb) p j)) from n ⌝ }
+// Element (i, j) of the target scaled, with alpha times the sum added.
+fn settle(v: View, alpha: Real32, beta: Beta32, c: &mut [f32], i: usize, j: usize, sum: Real32)
+    requires { ⌜ Shows v (real32 .count (now c)) i j ⌝ }
+    ensures { λ _. ⌜ now (c .exit) ≡ replaced real32 v i j (λ x. real32 .add (scaleBy32 beta x) (real32 .mul (alpha .0) (sum .0))) (now (c .entry)) ⌝ }
 {
-    let tl = turn_at(l, i, from);
-    let tr = turn_at(r, from, j);
-    let left = turned(tl.transposed, va);
-    let right = turned(tr.transposed, vb);
-    add_run(a, left, b, right, i, j, from, n, sum)
-}
-
-// Element (i, j) of the product of two operands, of which n elements each go into it, run after run.
-fn dot_in_runs(
-    l: Reading,
-    a: &[f32],
-    va: View,
-    r: Reading,
-    b: &[f32],
-    vb: View,
-    n: usize,
-    i: usize,
-    j: usize,
-) -> Real32
-    requires { ⌜ Factors l va (real32 .count (now a)) r vb (real32 .count (now b)) n i j ⌝ }
-    ensures { λ t. ⌜ t .0 ≡ dotOf real32 n (reading real32 l (elem real32 (now (a .entry)) va)) (reading real32 r (elem real32 (now (b .entry)) vb)) i j ⌝ }
-{
-    let mut sum = Real32::ZERO;
-    let mut p = 0;
-    while p < n {
-        let terms = alike(l, r, i, j, p, n);
-        sum = add_alike(l, a, va, r, b, vb, i, j, p, terms, sum);
-        p += terms;
-    }
-    sum
-}
-
-// The same, at once where both operands are read alike in all their elements.
-fn dot(
-    l: Reading,
-    a: &[f32],
-    va: View,
-    r: Reading,
-    b: &[f32],
-    vb: View,
-    n: usize,
-    i: usize,
-    j: usize,
-) -> Real32
-    requires { ⌜ Factors l va (real32 .count (now a)) r vb (real32 .count (now b)) n i j ⌝ }
-    ensures { λ t. ⌜ t .0 ≡ dotOf real32 n (reading real32 l (elem real32 (now (a .entry)) va)) (reading real32 r (elem real32 (now (b .entry)) vb)) i j ⌝ }
-{
-    if straight(l, r) {
-        add_alike(l, a, va, r, b, vb, i, j, 0, n, Real32::ZERO)
-    } else {
-        dot_in_runs(l, a, va, r, b, vb, n, i, j)
-    }
+    let k = place(v, i, j);
+    let old = get32(c, k);
+    put32(c, k, beta.scale(old).add(alpha.mul(sum)));
 }
 
 // Element (i, j) of the target.
@@ -159,20 +97,99 @@ fn entry(
     i: usize,
     j: usize,
 )
-    requires { ⌜ ReadyAt plan (real32 .count (now a)) (real32 .count (now b)) (real32 .count (now c)) i j ⌝ }
-    ensures { λ _. ⌜ now (c .exit) ≡ planPut real32 plan (scaleBy32 beta) (real32 .mul (alpha .0)) (now (a .entry)) (now (b .entry)) i j (now (c .entry)) ⌝ }
+    requires { ⌜ Ready plan (real32 .count (now a)) (real32 .count (now b)) (real32 .count (now c)) × (i < plan .target .rows) × (j < plan .target .cols) ⌝ }
+    ensures { λ _. ⌜ now (c .exit) ≡ replaced real32 (plan .target) i j (planChange real32 plan (scaleBy32 beta) (real32 .mul (alpha .0)) (now (a .entry)) (now (b .entry)) i j) (now (c .entry)) ⌝ }
 {
-    let left = plan.left;
-    let right = plan.right;
-    let sum = dot(left, a, plan.a, right, b, plan.b, plan.terms, i, j);
-    let k = place(plan.target, i, j);
-    let old = get32(c, k);
-    put32(c, k, beta.scale(old).add(alpha.mul(sum)));
+    let sum = add_run(plan.factors, a, b, i, j, 0, plan.terms, Real32::ZERO);
+    settle(plan.target, alpha, beta, c, i, j, sum);
 }
 
-// Element (i, j) of the target, where the plan writes it.
-fn step(
+// Row i of the target.
+fn row(plan: Plan, a: &[f32], b: &[f32], alpha: Real32, beta: Beta32, c: &mut [f32], i: usize)
+    requires { ⌜ Ready plan (real32 .count (now a)) (real32 .count (now b)) (real32 .count (now c)) × (i < plan .target .rows) ⌝ }
+    ensures { λ _. ⌜ now (c .exit) ≡ rowOf real32 (plan .target) everywhere (planChange real32 plan (scaleBy32 beta) (real32 .mul (alpha .0)) (now (a .entry)) (now (b .entry))) i (plan .target .cols) (now (c .entry)) ⌝ }
+{
+    let n = cols(plan.target);
+    let mut j = 0;
+    while j < n {
+        entry(plan, a, b, alpha, beta, c, i, j);
+        j += 1;
+    }
+}
+
+// The whole target.
+fn run(plan: Plan, a: &[f32], b: &[f32], alpha: Real32, beta: Beta32, c: &mut [f32])
+    requires { ⌜ Ready plan (real32 .count (now a)) (real32 .count (now b)) (real32 .count (now c)) ⌝ }
+    ensures { λ _. ⌜ now (c .exit) ≡ update real32 (plan .target) everywhere (planChange real32 plan (scaleBy32 beta) (real32 .mul (alpha .0)) (now (a .entry)) (now (b .entry))) (now (c .entry)) ⌝ }
+{
+    let m = rows(plan.target);
+    let mut i = 0;
+    while i < m {
+        row(plan, a, b, alpha, beta, c, i);
+        i += 1;
+    }
+}
+
+// Row i of the target's named triangle.
+fn triangle_row(
+    uplo: UpLo,
     plan: Plan,
+    a: &[f32],
+    b: &[f32],
+    alpha: Real32,
+    beta: Beta32,
+    c: &mut [f32],
+    i: usize,
+)
+    requires { ⌜ Ready plan (real32 .count (now a)) (real32 .count (now b)) (real32 .count (now c)) × (i < plan .target .rows) × (i < plan .target .cols) ⌝ }
+    ensures { λ _. ⌜ now (c .exit) ≡ rowOf real32 (plan .target) (inTriangle uplo) (planChange real32 plan (scaleBy32 beta) (real32 .mul (alpha .0)) (now (a .entry)) (now (b .entry))) i (plan .target .cols) (now (c .entry)) ⌝ }
+{
+    let end = end_col(uplo, i, cols(plan.target));
+    let mut j = first_col(uplo, i);
+    while j < end {
+        entry(plan, a, b, alpha, beta, c, i, j);
+        j += 1;
+    }
+}
+
+// The whole of the target's named triangle.
+fn run_triangle(
+    uplo: UpLo,
+    plan: Plan,
+    a: &[f32],
+    b: &[f32],
+    alpha: Real32,
+    beta: Beta32,
+    c: &mut [f32],
+)
+    requires { ⌜ Ready plan (real32 .count (now a)) (real32 .count (now b)) (real32 .count (now c)) × (plan .target .rows ≡ plan .target .cols) ⌝ }
+    ensures { λ _. ⌜ now (c .exit) ≡ update real32 (plan .target) (inTriangle uplo) (planChange real32 plan (scaleBy32 beta) (real32 .mul (alpha .0)) (now (a .entry)) (now (b .entry))) (now (c .entry)) ⌝ }
+{
+    let m = rows(plan.target);
+    let mut i = 0;
+    while i < m {
+        triangle_row(uplo, plan, a, b, alpha, beta, c, i);
+        i += 1;
+    }
+}
+
+// The whole target, which is a column.
+fn run_column(plan: Plan, a: &[f32], b: &[f32], alpha: Real32, beta: Beta32, c: &mut [f32])
+    requires { ⌜ Ready plan (real32 .count (now a)) (real32 .count (now b)) (real32 .count (now c)) × (plan .target .cols ≡ 1) ⌝ }
+    ensures { λ _. ⌜ now (c .exit) ≡ update real32 (plan .target) everywhere (planChange real32 plan (scaleBy32 beta) (real32 .mul (alpha .0)) (now (a .entry)) (now (b .entry))) (now (c .entry)) ⌝ }
+{
+    let m = rows(plan.target);
+    let mut i = 0;
+    while i < m {
+        entry(plan, a, b, alpha, beta, c, i, 0);
+        i += 1;
+    }
+}
+
+// Element (i, j) of a folded plan's target, where the sum turns after k terms.
+fn turned_entry(
+    plan: Folded,
+    k: usize,
     a: &[f32],
     b: &[f32],
     alpha: Real32,
@@ -181,37 +198,113 @@ fn step(
     i: usize,
     j: usize,
 )
-    requires { ⌜ ReadyAt plan (real32 .count (now a)) (real32 .count (now b)) (real32 .count (now c)) i j ⌝ }
-    ensures { λ _. ⌜ now (c .exit) ≡ planStep real32 plan (scaleBy32 beta) (real32 .mul (alpha .0)) (now (a .entry)) (now (b .entry)) i j (now (c .entry)) ⌝ }
+    requires { ⌜ FoldedReady plan (real32 .count (now a)) (real32 .count (now b)) (real32 .count (now c)) × (i < plan .target .rows) × (j < plan .target .cols) × (k ≡ turnOf (plan .turn) i j) ⌝ }
+    ensures { λ _. ⌜ now (c .exit) ≡ replaced real32 (plan .target) i j (foldedChange real32 plan (scaleBy32 beta) (real32 .mul (alpha .0)) (now (a .entry)) (now (b .entry)) i j) (now (c .entry)) ⌝ }
 {
-    let mask = plan.mask;
-    if admitted(mask, i, j) {
-        entry(plan, a, b, alpha, beta, c, i, j);
-    }
+    let n = plan.terms;
+    let head = add_run(plan.head, a, b, i, j, 0, k, Real32::ZERO);
+    let sum = add_run(plan.tail, a, b, i, j, k, n, head);
+    settle(plan.target, alpha, beta, c, i, j, sum);
 }
 
-// Row i of the target.
-fn row(plan: Plan, a: &[f32], b: &[f32], alpha: Real32, beta: Beta32, c: &mut [f32], i: usize)
-    requires { ⌜ ReadyRow plan (real32 .count (now a)) (real32 .count (now b)) (real32 .count (now c)) i ⌝ }
-    ensures { λ _. ⌜ now (c .exit) ≡ planRow real32 plan (scaleBy32 beta) (real32 .mul (alpha .0)) (now (a .entry)) (now (b .entry)) i (plan .target .cols) (now (c .entry)) ⌝ }
+// The same, with its turn found.
+fn folded_entry(
+    plan: Folded,
+    a: &[f32],
+    b: &[f32],
+    alpha: Real32,
+    beta: Beta32,
+    c: &mut [f32],
+    i: usize,
+    j: usize,
+)
+    requires { ⌜ FoldedReady plan (real32 .count (now a)) (real32 .count (now b)) (real32 .count (now c)) × (i < plan .target .rows) × (j < plan .target .cols) ⌝ }
+    ensures { λ _. ⌜ now (c .exit) ≡ replaced real32 (plan .target) i j (foldedChange real32 plan (scaleBy32 beta) (real32 .mul (alpha .0)) (now (a .entry)) (now (b .entry)) i j) (now (c .entry)) ⌝ }
 {
+    let turn = plan.turn;
+    let k = turn_at(turn, i, j, plan.terms);
+    turned_entry(plan, k, a, b, alpha, beta, c, i, j);
+}
+
+// Row i, whose elements' sums turn at one place.
+fn left_row(
+    plan: Folded,
+    a: &[f32],
+    b: &[f32],
+    alpha: Real32,
+    beta: Beta32,
+    c: &mut [f32],
+    i: usize,
+)
+    requires { ⌜ FoldedReady plan (real32 .count (now a)) (real32 .count (now b)) (real32 .count (now c)) × ByRow plan × (i < plan .target .rows) ⌝ }
+    ensures { λ _. ⌜ now (c .exit) ≡ rowOf real32 (plan .target) everywhere (foldedChange real32 plan (scaleBy32 beta) (real32 .mul (alpha .0)) (now (a .entry)) (now (b .entry))) i (plan .target .cols) (now (c .entry)) ⌝ }
+{
+    let turn = plan.turn;
+    let k = turn_at(turn, i, 0, plan.terms);
     let n = cols(plan.target);
     let mut j = 0;
     while j < n {
-        step(plan, a, b, alpha, beta, c, i, j);
+        turned_entry(plan, k, a, b, alpha, beta, c, i, j);
         j += 1;
     }
 }
 
-// The whole target.
-fn run(plan: Plan, a: &[f32], b: &[f32], alpha: Real32, beta: Beta32, c: &mut [f32])
-    requires { ⌜ Ready plan (real32 .count (now a)) (real32 .count (now b)) (real32 .count (now c)) ⌝ }
-    ensures { λ _. ⌜ now (c .exit) ≡ work real32 plan (scaleBy32 beta) (real32 .mul (alpha .0)) (now (a .entry)) (now (b .entry)) (now (c .entry)) ⌝ }
+// The whole target, with such rows.
+fn run_left(plan: Folded, a: &[f32], b: &[f32], alpha: Real32, beta: Beta32, c: &mut [f32])
+    requires { ⌜ FoldedReady plan (real32 .count (now a)) (real32 .count (now b)) (real32 .count (now c)) × ByRow plan ⌝ }
+    ensures { λ _. ⌜ now (c .exit) ≡ update real32 (plan .target) everywhere (foldedChange real32 plan (scaleBy32 beta) (real32 .mul (alpha .0)) (now (a .entry)) (now (b .entry))) (now (c .entry)) ⌝ }
 {
     let m = rows(plan.target);
     let mut i = 0;
     while i < m {
-        row(plan, a, b, alpha, beta, c, i);
+        left_row(plan, a, b, alpha, beta, c, i);
+        i += 1;
+    }
+}
+
+// Row i, whose elements turn each at its own place.
+fn right_row(
+    plan: Folded,
+    a: &[f32],
+    b: &[f32],
+    alpha: Real32,
+    beta: Beta32,
+    c: &mut [f32],
+    i: usize,
+)
+    requires { ⌜ FoldedReady plan (real32 .count (now a)) (real32 .count (now b)) (real32 .count (now c)) × (i < plan .target .rows) ⌝ }
+    ensures { λ _. ⌜ now (c .exit) ≡ rowOf real32 (plan .target) everywhere (foldedChange real32 plan (scaleBy32 beta) (real32 .mul (alpha .0)) (now (a .entry)) (now (b .entry))) i (plan .target .cols) (now (c .entry)) ⌝ }
+{
+    let n = cols(plan.target);
+    let mut j = 0;
+    while j < n {
+        folded_entry(plan, a, b, alpha, beta, c, i, j);
+        j += 1;
+    }
+}
+
+// The whole target, with such rows.
+fn run_right(plan: Folded, a: &[f32], b: &[f32], alpha: Real32, beta: Beta32, c: &mut [f32])
+    requires { ⌜ FoldedReady plan (real32 .count (now a)) (real32 .count (now b)) (real32 .count (now c)) ⌝ }
+    ensures { λ _. ⌜ now (c .exit) ≡ update real32 (plan .target) everywhere (foldedChange real32 plan (scaleBy32 beta) (real32 .mul (alpha .0)) (now (a .entry)) (now (b .entry))) (now (c .entry)) ⌝ }
+{
+    let m = rows(plan.target);
+    let mut i = 0;
+    while i < m {
+        right_row(plan, a, b, alpha, beta, c, i);
+        i += 1;
+    }
+}
+
+// The whole target, which is a column.
+fn run_left_column(plan: Folded, a: &[f32], b: &[f32], alpha: Real32, beta: Beta32, c: &mut [f32])
+    requires { ⌜ FoldedReady plan (real32 .count (now a)) (real32 .count (now b)) (real32 .count (now c)) × (plan .target .cols ≡ 1) ⌝ }
+    ensures { λ _. ⌜ now (c .exit) ≡ update real32 (plan .target) everywhere (foldedChange real32 plan (scaleBy32 beta) (real32 .mul (alpha .0)) (now (a .entry)) (now (b .entry))) (now (c .entry)) ⌝ }
+{
+    let m = rows(plan.target);
+    let mut i = 0;
+    while i < m {
+        folded_entry(plan, a, b, alpha, beta, c, i, 0);
         i += 1;
     }
 }
@@ -232,7 +325,7 @@ pub fn gemv(
 {
     let answer = check_gemv(trans, va, a.len(), vx, x.len(), vy, y.len());
     if passed(answer) {
-        run(
+        run_column(
             gemv_plan(trans, va, vx, vy),
             a,
             x,
@@ -260,7 +353,7 @@ pub fn hemv(
 {
     let answer = check_hemv(va, a.len(), vx, x.len(), vy, y.len());
     if passed(answer) {
-        run(
+        run_left_column(
             hemv_plan(uplo, va, vx, vy),
             a,
             x,
@@ -301,10 +394,11 @@ pub fn gemm(
     answer
 }
 
-// A, read as m says, on a side of B.
+// A, of which the named triangle is read, on a side of B; its other elements are mirrored, and conjugated where asked.
 fn sided(
     side: Side,
-    m: Reading,
+    conj: bool,
+    uplo: UpLo,
     alpha: Real32,
     a: &[f32],
     va: View,
@@ -314,12 +408,26 @@ fn sided(
     c: &mut [f32],
     vc: View,
 )
-    requires { ⌜ ReadySided side m va (real32 .count (now a)) vb (real32 .count (now b)) vc (real32 .count (now c)) ⌝ }
-    ensures { λ _. ⌜ now (c .exit) ≡ sidedWork real32 side m va vb vc (scaleBy32 beta) (real32 .mul (alpha .0)) (now (a .entry)) (now (b .entry)) (now (c .entry)) ⌝ }
+    requires { ⌜ ReadySided side conj uplo va (real32 .count (now a)) vb (real32 .count (now b)) vc (real32 .count (now c)) ⌝ }
+    ensures { λ _. ⌜ now (c .exit) ≡ sidedWork real32 side conj uplo va vb vc (scaleBy32 beta) (real32 .mul (alpha .0)) (now (a .entry)) (now (b .entry)) (now (c .entry)) ⌝ }
 {
     match side {
-        Side::Left => run(left_plan(m, va, vb, vc), a, b, alpha, beta, c),
-        Side::Right => run(right_plan(m, va, vb, vc), b, a, alpha, beta, c),
+        Side::Left => run_left(
+            left_plan(conj, uplo, va, vb, rows(vc), vc),
+            a,
+            b,
+            alpha,
+            beta,
+            c,
+        ),
+        Side::Right => run_right(
+            right_plan(conj, uplo, va, vb, cols(vc), vc),
+            b,
+            a,
+            alpha,
+            beta,
+            c,
+        ),
     }
 }
 
@@ -342,7 +450,8 @@ pub fn symm(
     if passed(answer) {
         sided(
             side,
-            Reading::Symmetric(uplo),
+            false,
+            uplo,
             alpha,
             a,
             va,
@@ -375,7 +484,8 @@ pub fn hemm(
     if passed(answer) {
         sided(
             side,
-            Reading::Hermitian(uplo),
+            true,
+            uplo,
             alpha,
             a,
             va,
@@ -404,8 +514,9 @@ pub fn syrk(
 {
     let answer = check_syrk(trans, va, a.len(), vc, c.len());
     if passed(answer) {
-        run(
-            syrk_plan(uplo, trans, va, vc),
+        run_triangle(
+            uplo,
+            syrk_plan(trans, va, vc),
             a,
             a,
             alpha,
@@ -431,8 +542,9 @@ pub fn herk(
 {
     let answer = check_herk(trans, va, a.len(), vc, c.len());
     if passed(answer) {
-        run(
-            herk_plan(uplo, trans, va, vc),
+        run_triangle(
+            uplo,
+            herk_plan(trans, va, vc),
             a,
             a,
             Real32(alpha),

@@ -1,10 +1,13 @@
 // The products of f64.
 
 ghost use mathlib.Core.Path.{_≡_};
+ghost use Prim.Native.Nat.{_<_, _-_};
 ghost use Rattle.number.specs.Kind.{real64};
 ghost use Rattle.number.specs.Scaling.{scaleBy64};
-ghost use Rattle.slab.specs.Elem.{elem, lent};
-ghost use Rattle.blas.specs.Matrix.{dot as dotOf};
+ghost use Rattle.view.specs.Triangle.{inTriangle};
+ghost use Rattle.slab.specs.Run.{more};
+ghost use Rattle.slab.specs.Elem.{lent, Shows};
+ghost use Rattle.slab.specs.Update.{everywhere, row as rowOf, update};
 ghost use Rattle.blas.specs.Outcome.{Gives};
 ghost use Rattle.blas.specs.Gemm;
 ghost use Rattle.blas.specs.Gemv;
@@ -14,24 +17,22 @@ ghost use Rattle.blas.specs.Herk;
 ghost use Rattle.blas.specs.Symm;
 ghost use Rattle.blas.specs.Syrk;
 ghost use Rattle.product_plan.specs.Plans.{ReadySided, sidedWork};
-ghost use Rattle.product_plan.specs.Plan.{reading, planPut, planStep, planRow, work, Factors, Ready, ReadyAt, ReadyRow};
-ghost use Rattle.product_plan.specs.Runs.{more, Spans, Alike};
+ghost use Rattle.product_plan.specs.Plan.{term, replaced, planChange, foldedChange, turnOf, Spans, Ready, FoldedReady, ByRow};
 use number::Beta64;
 use number::Real64;
+use product_plan::Factors;
+use product_plan::Folded;
 use product_plan::Plan;
-use product_plan::Reading;
-use product_plan::admitted;
-use product_plan::alike;
+use product_plan::end_col;
+use product_plan::first_col;
 use product_plan::gemm_plan;
 use product_plan::gemv_plan;
 use product_plan::hemv_plan;
 use product_plan::herk_plan;
 use product_plan::left_plan;
 use product_plan::right_plan;
-use product_plan::straight;
 use product_plan::syrk_plan;
 use product_plan::turn_at;
-use product_plan::turned;
 use slab::elem64;
 use slab::get64;
 use slab::put64;
@@ -52,100 +53,37 @@ use view::passed;
 use view::place;
 use view::rows;
 
-// The sum with n products more: row i of one view by column j of another, from `from` on.
+// The sum with the terms of element (i, j) from `from` to before `end` added.
 fn add_run(
+    f: Factors,
     a: &[f64],
-    va: View,
     b: &[f64],
-    vb: View,
     i: usize,
     j: usize,
     from: usize,
-    n: usize,
+    end: usize,
     sum: Real64,
 ) -> Real64
-    requires { ⌜ Spans va (real64 .count (now a)) vb (real64 .count (now b)) i j from n ⌝ }
-    ensures { λ r. ⌜ r .0 ≡ more real64 (sum .0) (λ p. real64 .mul (elem real64 (now (a .entry)) va i p) (elem real64 (now (b .entry)) vb p j)) from n ⌝ }
+    requires { ⌜ Spans f (real64 .count (now a)) (real64 .count (now b)) i j from end ⌝ }
+    ensures { λ r. ⌜ r .0 ≡ more real64 (sum .0) (term real64 f (now (a .entry)) (now (b .entry)) i j) from (end - from) ⌝ }
 {
     let mut total = sum;
-    let mut k = 0;
-    while k < n {
-        let p = from + k;
-        total = total.add(elem64(a, va, i, p).mul(elem64(b, vb, p, j)));
-        k += 1;
+    let mut p = from;
+    while p < end {
+        total = total.add(elem64(a, f.left, i, p).mul(elem64(b, f.right, p, j)));
+        p += 1;
     }
     total
 }
 
-// The same of two operands, whose terms are read alike.
-fn add_alike(
-    l: Reading,
-    a: &[f64],
-    va: View,
-    r: Reading,
-    b: &[f64],
-    vb: View,
-    i: usize,
-    j: usize,
-    from: usize,
-    n: usize,
-    sum: Real64,
-) -> Real64
-    requires { ⌜ Alike l va (real64 .count (now a)) r vb (real64 .count (now b)) i j from n ⌝ }
-    ensures { λ t. ⌜ t .0 ≡ more real64 (sum .0) (λ p. real64 .mul (reading real64 l (elem real64 (now (a .entry)) va) i p) (reading real64 r (elem real64 (now (b .entry)) vb) p j)) from n ⌝ }
+// Element (i, j) of the target scaled, with alpha times the sum added.
+fn settle(v: View, alpha: Real64, beta: Beta64, c: &mut [f64], i: usize, j: usize, sum: Real64)
+    requires { ⌜ Shows v (real64 .count (now c)) i j ⌝ }
+    ensures { λ _. ⌜ now (c .exit) ≡ replaced real64 v i j (λ x. real64 .add (scaleBy64 beta x) (real64 .mul (alpha .0) (sum .0))) (now (c .entry)) ⌝ }
 {
-    let tl = turn_at(l, i, from);
-    let tr = turn_at(r, from, j);
-    let left = turned(tl.transposed, va);
-    let right = turned(tr.transposed, vb);
-    add_run(a, left, b, right, i, j, from, n, sum)
-}
-
-// Element (i, j) of the product of two operands, of which n elements each go into it, run after run.
-fn dot_in_runs(
-    l: Reading,
-    a: &[f64],
-    va: View,
-    r: Reading,
-    b: &[f64],
-    vb: View,
-    n: usize,
-    i: usize,
-    j: usize,
-) -> Real64
-    requires { ⌜ Factors l va (real64 .count (now a)) r vb (real64 .count (now b)) n i j ⌝ }
-    ensures { λ t. ⌜ t .0 ≡ dotOf real64 n (reading real64 l (elem real64 (now (a .entry)) va)) (reading real64 r (elem real64 (now (b .entry)) vb)) i j ⌝ }
-{
-    let mut sum = Real64::ZERO;
-    let mut p = 0;
-    while p < n {
-        let terms = alike(l, r, i, j, p, n);
-        sum = add_alike(l, a, va, r, b, vb, i, j, p, terms, sum);
-        p += terms;
-    }
-    sum
-}
-
-// The same, at once where both operands are read alike in all their elements.
-fn dot(
-    l: Reading,
-    a: &[f64],
-    va: View,
-    r: Reading,
-    b: &[f64],
-    vb: View,
-    n: usize,
-    i: usize,
-    j: usize,
-) -> Real64
-    requires { ⌜ Factors l va (real64 .count (now a)) r vb (real64 .count (now b)) n i j ⌝ }
-    ensures { λ t. ⌜ t .0 ≡ dotOf real64 n (reading real64 l (elem real64 (now (a .entry)) va)) (reading real64 r (elem real64 (now (b .entry)) vb)) i j ⌝ }
-{
-    if straight(l, r) {
-        add_alike(l, a, va, r, b, vb, i, j, 0, n, Real64::ZERO)
-    } else {
-        dot_in_runs(l, a, va, r, b, vb, n, i, j)
-    }
+    let k = place(v, i, j);
+    let old = get64(c, k);
+    put64(c, k, beta.scale(old).add(alpha.mul(sum)));
 }
 
 // Element (i, j) of the target.
@@ -159,20 +97,99 @@ fn entry(
     i: usize,
     j: usize,
 )
-    requires { ⌜ ReadyAt plan (real64 .count (now a)) (real64 .count (now b)) (real64 .count (now c)) i j ⌝ }
-    ensures { λ _. ⌜ now (c .exit) ≡ planPut real64 plan (scaleBy64 beta) (real64 .mul (alpha .0)) (now (a .entry)) (now (b .entry)) i j (now (c .entry)) ⌝ }
+    requires { ⌜ Ready plan (real64 .count (now a)) (real64 .count (now b)) (real64 .count (now c)) × (i < plan .target .rows) × (j < plan .target .cols) ⌝ }
+    ensures { λ _. ⌜ now (c .exit) ≡ replaced real64 (plan .target) i j (planChange real64 plan (scaleBy64 beta) (real64 .mul (alpha .0)) (now (a .entry)) (now (b .entry)) i j) (now (c .entry)) ⌝ }
 {
-    let left = plan.left;
-    let right = plan.right;
-    let sum = dot(left, a, plan.a, right, b, plan.b, plan.terms, i, j);
-    let k = place(plan.target, i, j);
-    let old = get64(c, k);
-    put64(c, k, beta.scale(old).add(alpha.mul(sum)));
+    let sum = add_run(plan.factors, a, b, i, j, 0, plan.terms, Real64::ZERO);
+    settle(plan.target, alpha, beta, c, i, j, sum);
 }
 
-// Element (i, j) of the target, where the plan writes it.
-fn step(
+// Row i of the target.
+fn row(plan: Plan, a: &[f64], b: &[f64], alpha: Real64, beta: Beta64, c: &mut [f64], i: usize)
+    requires { ⌜ Ready plan (real64 .count (now a)) (real64 .count (now b)) (real64 .count (now c)) × (i < plan .target .rows) ⌝ }
+    ensures { λ _. ⌜ now (c .exit) ≡ rowOf real64 (plan .target) everywhere (planChange real64 plan (scaleBy64 beta) (real64 .mul (alpha .0)) (now (a .entry)) (now (b .entry))) i (plan .target .cols) (now (c .entry)) ⌝ }
+{
+    let n = cols(plan.target);
+    let mut j = 0;
+    while j < n {
+        entry(plan, a, b, alpha, beta, c, i, j);
+        j += 1;
+    }
+}
+
+// The whole target.
+fn run(plan: Plan, a: &[f64], b: &[f64], alpha: Real64, beta: Beta64, c: &mut [f64])
+    requires { ⌜ Ready plan (real64 .count (now a)) (real64 .count (now b)) (real64 .count (now c)) ⌝ }
+    ensures { λ _. ⌜ now (c .exit) ≡ update real64 (plan .target) everywhere (planChange real64 plan (scaleBy64 beta) (real64 .mul (alpha .0)) (now (a .entry)) (now (b .entry))) (now (c .entry)) ⌝ }
+{
+    let m = rows(plan.target);
+    let mut i = 0;
+    while i < m {
+        row(plan, a, b, alpha, beta, c, i);
+        i += 1;
+    }
+}
+
+// Row i of the target's named triangle.
+fn triangle_row(
+    uplo: UpLo,
     plan: Plan,
+    a: &[f64],
+    b: &[f64],
+    alpha: Real64,
+    beta: Beta64,
+    c: &mut [f64],
+    i: usize,
+)
+    requires { ⌜ Ready plan (real64 .count (now a)) (real64 .count (now b)) (real64 .count (now c)) × (i < plan .target .rows) × (i < plan .target .cols) ⌝ }
+    ensures { λ _. ⌜ now (c .exit) ≡ rowOf real64 (plan .target) (inTriangle uplo) (planChange real64 plan (scaleBy64 beta) (real64 .mul (alpha .0)) (now (a .entry)) (now (b .entry))) i (plan .target .cols) (now (c .entry)) ⌝ }
+{
+    let end = end_col(uplo, i, cols(plan.target));
+    let mut j = first_col(uplo, i);
+    while j < end {
+        entry(plan, a, b, alpha, beta, c, i, j);
+        j += 1;
+    }
+}
+
+// The whole of the target's named triangle.
+fn run_triangle(
+    uplo: UpLo,
+    plan: Plan,
+    a: &[f64],
+    b: &[f64],
+    alpha: Real64,
+    beta: Beta64,
+    c: &mut [f64],
+)
+    requires { ⌜ Ready plan (real64 .count (now a)) (real64 .count (now b)) (real64 .count (now c)) × (plan .target .rows ≡ plan .target .cols) ⌝ }
+    ensures { λ _. ⌜ now (c .exit) ≡ update real64 (plan .target) (inTriangle uplo) (planChange real64 plan (scaleBy64 beta) (real64 .mul (alpha .0)) (now (a .entry)) (now (b .entry))) (now (c .entry)) ⌝ }
+{
+    let m = rows(plan.target);
+    let mut i = 0;
+    while i < m {
+        triangle_row(uplo, plan, a, b, alpha, beta, c, i);
+        i += 1;
+    }
+}
+
+// The whole target, which is a column.
+fn run_column(plan: Plan, a: &[f64], b: &[f64], alpha: Real64, beta: Beta64, c: &mut [f64])
+    requires { ⌜ Ready plan (real64 .count (now a)) (real64 .count (now b)) (real64 .count (now c)) × (plan .target .cols ≡ 1) ⌝ }
+    ensures { λ _. ⌜ now (c .exit) ≡ update real64 (plan .target) everywhere (planChange real64 plan (scaleBy64 beta) (real64 .mul (alpha .0)) (now (a .entry)) (now (b .entry))) (now (c .entry)) ⌝ }
+{
+    let m = rows(plan.target);
+    let mut i = 0;
+    while i < m {
+        entry(plan, a, b, alpha, beta, c, i, 0);
+        i += 1;
+    }
+}
+
+// Element (i, j) of a folded plan's target, where the sum turns after k terms.
+fn turned_entry(
+    plan: Folded,
+    k: usize,
     a: &[f64],
     b: &[f64],
     alpha: Real64,
@@ -181,37 +198,113 @@ fn step(
     i: usize,
     j: usize,
 )
-    requires { ⌜ ReadyAt plan (real64 .count (now a)) (real64 .count (now b)) (real64 .count (now c)) i j ⌝ }
-    ensures { λ _. ⌜ now (c .exit) ≡ planStep real64 plan (scaleBy64 beta) (real64 .mul (alpha .0)) (now (a .entry)) (now (b .entry)) i j (now (c .entry)) ⌝ }
+    requires { ⌜ FoldedReady plan (real64 .count (now a)) (real64 .count (now b)) (real64 .count (now c)) × (i < plan .target .rows) × (j < plan .target .cols) × (k ≡ turnOf (plan .turn) i j) ⌝ }
+    ensures { λ _. ⌜ now (c .exit) ≡ replaced real64 (plan .target) i j (foldedChange real64 plan (scaleBy64 beta) (real64 .mul (alpha .0)) (now (a .entry)) (now (b .entry)) i j) (now (c .entry)) ⌝ }
 {
-    let mask = plan.mask;
-    if admitted(mask, i, j) {
-        entry(plan, a, b, alpha, beta, c, i, j);
-    }
+    let n = plan.terms;
+    let head = add_run(plan.head, a, b, i, j, 0, k, Real64::ZERO);
+    let sum = add_run(plan.tail, a, b, i, j, k, n, head);
+    settle(plan.target, alpha, beta, c, i, j, sum);
 }
 
-// Row i of the target.
-fn row(plan: Plan, a: &[f64], b: &[f64], alpha: Real64, beta: Beta64, c: &mut [f64], i: usize)
-    requires { ⌜ ReadyRow plan (real64 .count (now a)) (real64 .count (now b)) (real64 .count (now c)) i ⌝ }
-    ensures { λ _. ⌜ now (c .exit) ≡ planRow real64 plan (scaleBy64 beta) (real64 .mul (alpha .0)) (now (a .entry)) (now (b .entry)) i (plan .target .cols) (now (c .entry)) ⌝ }
+// The same, with its turn found.
+fn folded_entry(
+    plan: Folded,
+    a: &[f64],
+    b: &[f64],
+    alpha: Real64,
+    beta: Beta64,
+    c: &mut [f64],
+    i: usize,
+    j: usize,
+)
+    requires { ⌜ FoldedReady plan (real64 .count (now a)) (real64 .count (now b)) (real64 .count (now c)) × (i < plan .target .rows) × (j < plan .target .cols) ⌝ }
+    ensures { λ _. ⌜ now (c .exit) ≡ replaced real64 (plan .target) i j (foldedChange real64 plan (scaleBy64 beta) (real64 .mul (alpha .0)) (now (a .entry)) (now (b .entry)) i j) (now (c .entry)) ⌝ }
 {
+    let turn = plan.turn;
+    let k = turn_at(turn, i, j, plan.terms);
+    turned_entry(plan, k, a, b, alpha, beta, c, i, j);
+}
+
+// Row i, whose elements' sums turn at one place.
+fn left_row(
+    plan: Folded,
+    a: &[f64],
+    b: &[f64],
+    alpha: Real64,
+    beta: Beta64,
+    c: &mut [f64],
+    i: usize,
+)
+    requires { ⌜ FoldedReady plan (real64 .count (now a)) (real64 .count (now b)) (real64 .count (now c)) × ByRow plan × (i < plan .target .rows) ⌝ }
+    ensures { λ _. ⌜ now (c .exit) ≡ rowOf real64 (plan .target) everywhere (foldedChange real64 plan (scaleBy64 beta) (real64 .mul (alpha .0)) (now (a .entry)) (now (b .entry))) i (plan .target .cols) (now (c .entry)) ⌝ }
+{
+    let turn = plan.turn;
+    let k = turn_at(turn, i, 0, plan.terms);
     let n = cols(plan.target);
     let mut j = 0;
     while j < n {
-        step(plan, a, b, alpha, beta, c, i, j);
+        turned_entry(plan, k, a, b, alpha, beta, c, i, j);
         j += 1;
     }
 }
 
-// The whole target.
-fn run(plan: Plan, a: &[f64], b: &[f64], alpha: Real64, beta: Beta64, c: &mut [f64])
-    requires { ⌜ Ready plan (real64 .count (now a)) (real64 .count (now b)) (real64 .count (now c)) ⌝ }
-    ensures { λ _. ⌜ now (c .exit) ≡ work real64 plan (scaleBy64 beta) (real64 .mul (alpha .0)) (now (a .entry)) (now (b .entry)) (now (c .entry)) ⌝ }
+// The whole target, with such rows.
+fn run_left(plan: Folded, a: &[f64], b: &[f64], alpha: Real64, beta: Beta64, c: &mut [f64])
+    requires { ⌜ FoldedReady plan (real64 .count (now a)) (real64 .count (now b)) (real64 .count (now c)) × ByRow plan ⌝ }
+    ensures { λ _. ⌜ now (c .exit) ≡ update real64 (plan .target) everywhere (foldedChange real64 plan (scaleBy64 beta) (real64 .mul (alpha .0)) (now (a .entry)) (now (b .entry))) (now (c .entry)) ⌝ }
 {
     let m = rows(plan.target);
     let mut i = 0;
     while i < m {
-        row(plan, a, b, alpha, beta, c, i);
+        left_row(plan, a, b, alpha, beta, c, i);
+        i += 1;
+    }
+}
+
+// Row i, whose elements turn each at its own place.
+fn right_row(
+    plan: Folded,
+    a: &[f64],
+    b: &[f64],
+    alpha: Real64,
+    beta: Beta64,
+    c: &mut [f64],
+    i: usize,
+)
+    requires { ⌜ FoldedReady plan (real64 .count (now a)) (real64 .count (now b)) (real64 .count (now c)) × (i < plan .target .rows) ⌝ }
+    ensures { λ _. ⌜ now (c .exit) ≡ rowOf real64 (plan .target) everywhere (foldedChange real64 plan (scaleBy64 beta) (real64 .mul (alpha .0)) (now (a .entry)) (now (b .entry))) i (plan .target .cols) (now (c .entry)) ⌝ }
+{
+    let n = cols(plan.target);
+    let mut j = 0;
+    while j < n {
+        folded_entry(plan, a, b, alpha, beta, c, i, j);
+        j += 1;
+    }
+}
+
+// The whole target, with such rows.
+fn run_right(plan: Folded, a: &[f64], b: &[f64], alpha: Real64, beta: Beta64, c: &mut [f64])
+    requires { ⌜ FoldedReady plan (real64 .count (now a)) (real64 .count (now b)) (real64 .count (now c)) ⌝ }
+    ensures { λ _. ⌜ now (c .exit) ≡ update real64 (plan .target) everywhere (foldedChange real64 plan (scaleBy64 beta) (real64 .mul (alpha .0)) (now (a .entry)) (now (b .entry))) (now (c .entry)) ⌝ }
+{
+    let m = rows(plan.target);
+    let mut i = 0;
+    while i < m {
+        right_row(plan, a, b, alpha, beta, c, i);
+        i += 1;
+    }
+}
+
+// The whole target, which is a column.
+fn run_left_column(plan: Folded, a: &[f64], b: &[f64], alpha: Real64, beta: Beta64, c: &mut [f64])
+    requires { ⌜ FoldedReady plan (real64 .count (now a)) (real64 .count (now b)) (real64 .count (now c)) × (plan .target .cols ≡ 1) ⌝ }
+    ensures { λ _. ⌜ now (c .exit) ≡ update real64 (plan .target) everywhere (foldedChange real64 plan (scaleBy64 beta) (real64 .mul (alpha .0)) (now (a .entry)) (now (b .entry))) (now (c .entry)) ⌝ }
+{
+    let m = rows(plan.target);
+    let mut i = 0;
+    while i < m {
+        folded_entry(plan, a, b, alpha, beta, c, i, 0);
         i += 1;
     }
 }
@@ -232,7 +325,7 @@ pub fn gemv(
 {
     let answer = check_gemv(trans, va, a.len(), vx, x.len(), vy, y.len());
     if passed(answer) {
-        run(
+        run_column(
             gemv_plan(trans, va, vx, vy),
             a,
             x,
@@ -260,7 +353,7 @@ pub fn hemv(
 {
     let answer = check_hemv(va, a.len(), vx, x.len(), vy, y.len());
     if passed(answer) {
-        run(
+        run_left_column(
             hemv_plan(uplo, va, vx, vy),
             a,
             x,
@@ -301,10 +394,11 @@ pub fn gemm(
     answer
 }
 
-// A, read as m says, on a side of B.
+// A, of which the named triangle is read, on a side of B; its other elements are mirrored, and conjugated where asked.
 fn sided(
     side: Side,
-    m: Reading,
+    conj: bool,
+    uplo: UpLo,
     alpha: Real64,
     a: &[f64],
     va: View,
@@ -314,12 +408,26 @@ fn sided(
     c: &mut [f64],
     vc: View,
 )
-    requires { ⌜ ReadySided side m va (real64 .count (now a)) vb (real64 .count (now b)) vc (real64 .count (now c)) ⌝ }
-    ensures { λ _. ⌜ now (c .exit) ≡ sidedWork real64 side m va vb vc (scaleBy64 beta) (real64 .mul (alpha .0)) (now (a .entry)) (now (b .entry)) (now (c .entry)) ⌝ }
+    requires { ⌜ ReadySided side conj uplo va (real64 .count (now a)) vb (real64 .count (now b)) vc (real64 .count (now c)) ⌝ }
+    ensures { λ _. ⌜ now (c .exit) ≡ sidedWork real64 side conj uplo va vb vc (scaleBy64 beta) (real64 .mul (alpha .0)) (now (a .entry)) (now (b .entry)) (now (c .entry)) ⌝ }
 {
     match side {
-        Side::Left => run(left_plan(m, va, vb, vc), a, b, alpha, beta, c),
-        Side::Right => run(right_plan(m, va, vb, vc), b, a, alpha, beta, c),
+        Side::Left => run_left(
+            left_plan(conj, uplo, va, vb, rows(vc), vc),
+            a,
+            b,
+            alpha,
+            beta,
+            c,
+        ),
+        Side::Right => run_right(
+            right_plan(conj, uplo, va, vb, cols(vc), vc),
+            b,
+            a,
+            alpha,
+            beta,
+            c,
+        ),
     }
 }
 
@@ -342,7 +450,8 @@ pub fn symm(
     if passed(answer) {
         sided(
             side,
-            Reading::Symmetric(uplo),
+            false,
+            uplo,
             alpha,
             a,
             va,
@@ -375,7 +484,8 @@ pub fn hemm(
     if passed(answer) {
         sided(
             side,
-            Reading::Hermitian(uplo),
+            true,
+            uplo,
             alpha,
             a,
             va,
@@ -404,8 +514,9 @@ pub fn syrk(
 {
     let answer = check_syrk(trans, va, a.len(), vc, c.len());
     if passed(answer) {
-        run(
-            syrk_plan(uplo, trans, va, vc),
+        run_triangle(
+            uplo,
+            syrk_plan(trans, va, vc),
             a,
             a,
             alpha,
@@ -431,8 +542,9 @@ pub fn herk(
 {
     let answer = check_herk(trans, va, a.len(), vc, c.len());
     if passed(answer) {
-        run(
-            herk_plan(uplo, trans, va, vc),
+        run_triangle(
+            uplo,
+            herk_plan(trans, va, vc),
             a,
             a,
             Real64(alpha),

@@ -2,38 +2,60 @@
 -- target alone; else it has run its plan.
 use Prim.Native.Nat.{ℕ}
 use mathlib.Core.Bool.{Bool, true, false}
-use mathlib.Core.List.{List, [], _∷_}
-use mathlib.Core.Path.{_≡_, refl, ap, sym, subst, _∙_}
+use mathlib.Core.List.{List}
+use mathlib.Core.Path.{_≡_, refl, _∙_}
 use Rattle.number.specs.Kind.{Kind}
 use Rattle.number.specs.Scaling.{scaled, scaledReal}
 use Rattle.view.specs.declared.View.{View}
 use Rattle.view.specs.declared.Answer.{Answer}
 use Rattle.view.specs.declared.Trans.{Trans}
+use Rattle.view.specs.declared.Trans.the-variants.{NoTrans}
 use Rattle.view.specs.declared.Side.{Side}
 use Rattle.view.specs.declared.Side.the-variants.{Left, Right}
 use Rattle.view.specs.declared.UpLo.{UpLo}
 use Rattle.view.specs.Refusals.{isVector}
 use Rattle.view.specs.Judge.{isDone}
-use Rattle.view.specs.Checks.{gemvCheck, hemvCheck, gemmCheck, symmCheck, hemmCheck, syrkCheck, herkCheck, gemvShape, hemvShape, symmShape}
+use Rattle.view.specs.Triangle.{inTriangle}
+use Rattle.view.specs.Vector.{columnOf}
+use Rattle.view.specs.Checks.{opCols, gemvCheck, hemvCheck, gemmCheck, symmCheck, hemmCheck, syrkCheck, herkCheck}
 use Rattle.view.specs.JudgeLaws.{judge-passed, gemv-sizes, hemv-sizes}
-use Rattle.slab.specs.Elem.{Lent}
-use Rattle.slab.specs.Update.{everywhere, update}
-use Rattle.blas.specs.Matrix.{accumulate}
+use Rattle.slab.specs.Elem.{Lent, elem}
+use Rattle.slab.specs.Update.{Mask, everywhere, update}
+use Rattle.blas.specs.Matrix.{op, dot, hermitian, accumulate}
 use Rattle.blas.specs.Outcome.{Gives}
 use Rattle.blas.specs.Gemv.{gemv}
 use Rattle.blas.specs.Hemv.{hemv}
 use Rattle.blas.specs.Gemm.{gemm}
 use Rattle.blas.specs.Symm.{symm, symmProduct}
 use Rattle.blas.specs.Hemm.{hemm, hemmProduct}
-use Rattle.blas.specs.Syrk.{syrk}
-use Rattle.blas.specs.Herk.{herk}
+use Rattle.blas.specs.Syrk.{syrk, syrkLeft, syrkRight}
+use Rattle.blas.specs.Herk.{herk, herkLeft, herkRight}
 use Rattle.blas.proofs.OutcomeLaws.{check-done, gives-work, gives-refusal}
 use Rattle.product_plan.specs.declared.plan.Plan.{Plan}
-use Rattle.product_plan.specs.declared.plan.Reading.the-variants.{Symmetric, Hermitian}
-use Rattle.product_plan.specs.Plan.{work, Ready}
-use Rattle.product_plan.specs.Plans.{gemmPlan, gemvPlan, hemvPlan, sidedPlan, syrkPlan, herkPlan, sidedWork, ReadySided}
-use Rattle.product_plan.proofs.Laws.{as-planned}
-use Rattle.product_plan.proofs.Ready.{gemm-ready, gemv-ready, hemv-ready, sided-ready, symmetric-readable, hermitian-readable, syrk-ready, herk-ready}
+use Rattle.product_plan.specs.declared.plan.Folded.{Folded}
+use Rattle.product_plan.specs.Plan.{planChange, foldedChange, Ready, FoldedReady}
+use Rattle.product_plan.specs.Plans.{opPlan, gemmPlan, gemvPlan, leftPlan, rightPlan, hemvPlan, syrkPlan, herkPlan, sidedWork, ReadySided}
+use Rattle.product_plan.proofs.Products.{named, op-product, left-product, right-product}
+use Rattle.product_plan.proofs.Ready.{gemm-ready, gemv-ready, hemv-ready, sided-ready, syrk-ready, herk-ready, target-square}
+
+-- ---- what a plan that has run leaves is what the definition says
+
+op-leaves : (K : Kind) (ta tb : Trans) (va vb : View) (n : ℕ) (vc : View) (a b c : List (K .Cell)) (mask : Mask) {plan : Plan} {f f' h h' : K .Elem → K .Elem}
+    → plan ≡ opPlan ta tb va vb n vc → f ≡ f' → h ≡ h'
+    → update K (plan .target) mask (planChange K plan f h a b) c
+    ≡ update K vc mask (accumulate K f' h' (dot K n (op K ta (elem K a va)) (op K tb (elem K b vb)))) c
+op-leaves K ta tb va vb n vc a b c mask {f' = f'} {h' = h'} p q s =
+    (λ i. update K (p i .target) mask (planChange K (p i) (q i) (s i) a b) c)
+    ∙ (λ i. update K vc mask (accumulate K f' h' (op-product K ta tb va vb n vc a b i)) c)
+
+module _ (K : Kind) (conj : Bool) (uplo : UpLo) (va vb : View) (n : ℕ) (vc : View) (a b c : List (K .Cell)) where
+  left-leaves : (f h : K .Elem → K .Elem) → update K vc everywhere (foldedChange K (leftPlan conj uplo va vb n vc) f h a b) c
+      ≡ update K vc everywhere (accumulate K f h (dot K n (named K conj uplo (elem K a va)) (elem K b vb))) c
+  left-leaves f h = λ i. update K vc everywhere (accumulate K f h (left-product K conj va vb n vc a b uplo i)) c
+
+  right-leaves : (f h : K .Elem → K .Elem) → update K vc everywhere (foldedChange K (rightPlan conj uplo va vb n vc) f h b a) c
+      ≡ update K vc everywhere (accumulate K f h (dot K n (elem K b vb) (named K conj uplo (elem K a va)))) c
+  right-leaves f h = λ i. update K vc everywhere (accumulate K f h (right-product K conj va vb n vc a b uplo i)) c
 
 -- ---- gemm
 
@@ -49,11 +71,13 @@ module _ (K : Kind) (ta tb : Trans) (alpha : K .Elem) (a b : Lent K) (beta : K .
   gemm-refused h = gives-refusal K _ (c .slab) _ r flag answered told h
 
   pub gemm-done : flag ≡ true → (plan : Plan) (byBeta byAlpha : K .Elem → K .Elem) (after : List (K .Cell)) → plan ≡ gemmPlan ta tb (a .view) (b .view) (c .view) → byBeta ≡ scaled K beta → byAlpha ≡ K .mul alpha
-      → after ≡ work K plan byBeta byAlpha (a .slab) (b .slab) (c .slab) → Gives K (gemm K ta tb alpha a b beta c) r after
+      → after ≡ update K (plan .target) everywhere (planChange K plan byBeta byAlpha (a .slab) (b .slab)) (c .slab) → Gives K (gemm K ta tb alpha a b beta c) r after
   unfolding gemm
   gemm-done passed plan byBeta byAlpha after planned scale weigh e =
-      gives-work K (work K (gemmPlan ta tb (a .view) (b .view) (c .view)) (scaled K beta) (K .mul alpha) (a .slab) (b .slab) (c .slab)) (c .slab) _ r flag after answered told passed
-      (e ∙ as-planned K planned scale weigh (a .slab) (b .slab) (c .slab))
+      gives-work K
+      (update K (c .view) everywhere (accumulate K (scaled K beta) (K .mul alpha) (dot K (opCols ta (a .view)) (op K ta (elem K (a .slab) (a .view))) (op K tb (elem K (b .slab) (b .view))))) (c .slab))
+      (c .slab) _ r flag after answered told passed
+      (e ∙ op-leaves K ta tb (a .view) (b .view) _ (c .view) (a .slab) (b .slab) (c .slab) everywhere planned scale weigh)
 
 -- ---- gemv
 
@@ -65,8 +89,8 @@ module _ (t : Trans) (a x y : View) (la lx ly : ℕ) (r : Answer) (flag : Bool)
       let s = gemv-sizes t a x y (judge-passed _ _ _ (check-done _ r flag answered told passed) .shape) in
       (s .0 .vector, s .1 .vector)
 
-  pub gemv-runs : (plan : Plan) → plan ≡ gemvPlan t a x y → Ready plan la lx ly
-  gemv-runs plan planned = rw planned (gemv-ready t a x y la lx ly (judge-passed _ _ _ (check-done _ r flag answered told passed)))
+  pub gemv-runs : (plan : Plan) → plan ≡ gemvPlan t a x y → Ready plan la lx ly × (plan .target .cols ≡ 1)
+  gemv-runs plan planned = rw planned (gemv-ready t a x y la lx ly (judge-passed _ _ _ (check-done _ r flag answered told passed)), refl)
 
 module _ (K : Kind) (t : Trans) (alpha : K .Elem) (a x : Lent K) (beta : K .Elem) (y : Lent K)
     (r : Answer) (flag : Bool) (answered : r ≡ gemvCheck t (a .view) (K .count (a .slab)) (x .view) (K .count (x .slab)) (y .view) (K .count (y .slab))) (told : flag ≡ isDone r) where
@@ -75,11 +99,13 @@ module _ (K : Kind) (t : Trans) (alpha : K .Elem) (a x : Lent K) (beta : K .Elem
   gemv-refused h = gives-refusal K _ (y .slab) _ r flag answered told h
 
   pub gemv-done : flag ≡ true → (plan : Plan) (byBeta byAlpha : K .Elem → K .Elem) (after : List (K .Cell)) → plan ≡ gemvPlan t (a .view) (x .view) (y .view) → byBeta ≡ scaled K beta → byAlpha ≡ K .mul alpha
-      → after ≡ work K plan byBeta byAlpha (a .slab) (x .slab) (y .slab) → Gives K (gemv K t alpha a x beta y) r after
+      → after ≡ update K (plan .target) everywhere (planChange K plan byBeta byAlpha (a .slab) (x .slab)) (y .slab) → Gives K (gemv K t alpha a x beta y) r after
   unfolding gemv
   gemv-done passed plan byBeta byAlpha after planned scale weigh e =
-      gives-work K (work K (gemvPlan t (a .view) (x .view) (y .view)) (scaled K beta) (K .mul alpha) (a .slab) (x .slab) (y .slab)) (y .slab) _ r flag after answered told passed
-      (e ∙ as-planned K planned scale weigh (a .slab) (x .slab) (y .slab))
+      gives-work K
+      (update K (columnOf (y .view)) everywhere (accumulate K (scaled K beta) (K .mul alpha) (dot K (opCols t (a .view)) (op K t (elem K (a .slab) (a .view))) (elem K (x .slab) (columnOf (x .view))))) (y .slab))
+      (y .slab) _ r flag after answered told passed
+      (e ∙ op-leaves K t NoTrans (a .view) (columnOf (x .view)) _ (columnOf (y .view)) (a .slab) (x .slab) (y .slab) everywhere planned scale weigh)
 
 -- ---- hemv
 
@@ -91,8 +117,8 @@ module _ (uplo : UpLo) (a x y : View) (la lx ly : ℕ) (r : Answer) (flag : Bool
       let s = hemv-sizes a x y (judge-passed _ _ _ (check-done _ r flag answered told passed) .shape) in
       (s .1 .vector, s .2 .vector)
 
-  pub hemv-runs : (plan : Plan) → plan ≡ hemvPlan uplo a x y → Ready plan la lx ly
-  hemv-runs plan planned = rw planned (hemv-ready uplo a x y la lx ly (judge-passed _ _ _ (check-done _ r flag answered told passed)))
+  pub hemv-runs : (plan : Folded) → plan ≡ hemvPlan uplo a x y → FoldedReady plan la lx ly × (plan .target .cols ≡ 1)
+  hemv-runs plan planned = rw planned (hemv-ready uplo a x y la lx ly (judge-passed _ _ _ (check-done _ r flag answered told passed)), refl)
 
 module _ (K : Kind) (uplo : UpLo) (alpha : K .Elem) (a x : Lent K) (beta : K .Elem) (y : Lent K)
     (r : Answer) (flag : Bool) (answered : r ≡ hemvCheck (a .view) (K .count (a .slab)) (x .view) (K .count (x .slab)) (y .view) (K .count (y .slab))) (told : flag ≡ isDone r) where
@@ -100,19 +126,24 @@ module _ (K : Kind) (uplo : UpLo) (alpha : K .Elem) (a x : Lent K) (beta : K .El
   unfolding hemv
   hemv-refused h = gives-refusal K _ (y .slab) _ r flag answered told h
 
-  pub hemv-done : flag ≡ true → (plan : Plan) (byBeta byAlpha : K .Elem → K .Elem) (after : List (K .Cell)) → plan ≡ hemvPlan uplo (a .view) (x .view) (y .view) → byBeta ≡ scaled K beta → byAlpha ≡ K .mul alpha
-      → after ≡ work K plan byBeta byAlpha (a .slab) (x .slab) (y .slab) → Gives K (hemv K uplo alpha a x beta y) r after
+  pub hemv-done : flag ≡ true → (plan : Folded) (byBeta byAlpha : K .Elem → K .Elem) (after : List (K .Cell)) → plan ≡ hemvPlan uplo (a .view) (x .view) (y .view) → byBeta ≡ scaled K beta → byAlpha ≡ K .mul alpha
+      → after ≡ update K (plan .target) everywhere (foldedChange K plan byBeta byAlpha (a .slab) (x .slab)) (y .slab) → Gives K (hemv K uplo alpha a x beta y) r after
   unfolding hemv
   hemv-done passed plan byBeta byAlpha after planned scale weigh e =
-      gives-work K (work K (hemvPlan uplo (a .view) (x .view) (y .view)) (scaled K beta) (K .mul alpha) (a .slab) (x .slab) (y .slab)) (y .slab) _ r flag after answered told passed
-      (e ∙ as-planned K planned scale weigh (a .slab) (x .slab) (y .slab))
+      gives-work K
+      (update K (columnOf (y .view)) everywhere (accumulate K (scaled K beta) (K .mul alpha) (dot K (a .view .rows) (hermitian K uplo (elem K (a .slab) (a .view))) (elem K (x .slab) (columnOf (x .view))))) (y .slab))
+      (y .slab) _ r flag after answered told passed
+      (e
+      ∙ (λ i. update K (planned i .target) everywhere (foldedChange K (planned i) (scale i) (weigh i) (a .slab) (x .slab)) (y .slab))
+      ∙ left-leaves K true uplo (a .view) (columnOf (x .view)) _ (columnOf (y .view)) (a .slab) (x .slab) (y .slab) (scaled K beta) (K .mul alpha))
 
 -- ---- syrk
 
-module _ (uplo : UpLo) (t : Trans) (a c : View) (la lc : ℕ) (r : Answer) (flag : Bool)
+module _ (t : Trans) (a c : View) (la lc : ℕ) (r : Answer) (flag : Bool)
     (answered : r ≡ syrkCheck t a la c lc) (told : flag ≡ isDone r) (passed : flag ≡ true) where
-  pub syrk-runs : (plan : Plan) → plan ≡ syrkPlan uplo t a c → Ready plan la la lc
-  syrk-runs plan planned = rw planned (syrk-ready uplo t a c la lc (judge-passed _ _ _ (check-done _ r flag answered told passed)))
+  pub syrk-runs : (plan : Plan) → plan ≡ syrkPlan t a c → Ready plan la la lc × (plan .target .rows ≡ plan .target .cols)
+  syrk-runs plan planned = let h = judge-passed _ _ _ (check-done _ r flag answered told passed) in
+      rw planned (syrk-ready t a c la lc h, target-square t a c la lc h)
 
 module _ (K : Kind) (uplo : UpLo) (t : Trans) (alpha : K .Elem) (a : Lent K) (beta : K .Elem) (c : Lent K)
     (r : Answer) (flag : Bool) (answered : r ≡ syrkCheck t (a .view) (K .count (a .slab)) (c .view) (K .count (c .slab))) (told : flag ≡ isDone r) where
@@ -120,19 +151,22 @@ module _ (K : Kind) (uplo : UpLo) (t : Trans) (alpha : K .Elem) (a : Lent K) (be
   unfolding syrk
   syrk-refused h = gives-refusal K _ (c .slab) _ r flag answered told h
 
-  pub syrk-done : flag ≡ true → (plan : Plan) (byBeta byAlpha : K .Elem → K .Elem) (after : List (K .Cell)) → plan ≡ syrkPlan uplo t (a .view) (c .view) → byBeta ≡ scaled K beta → byAlpha ≡ K .mul alpha
-      → after ≡ work K plan byBeta byAlpha (a .slab) (a .slab) (c .slab) → Gives K (syrk K uplo t alpha a beta c) r after
+  pub syrk-done : flag ≡ true → (plan : Plan) (byBeta byAlpha : K .Elem → K .Elem) (after : List (K .Cell)) → plan ≡ syrkPlan t (a .view) (c .view) → byBeta ≡ scaled K beta → byAlpha ≡ K .mul alpha
+      → after ≡ update K (plan .target) (inTriangle uplo) (planChange K plan byBeta byAlpha (a .slab) (a .slab)) (c .slab) → Gives K (syrk K uplo t alpha a beta c) r after
   unfolding syrk
   syrk-done passed plan byBeta byAlpha after planned scale weigh e =
-      gives-work K (work K (syrkPlan uplo t (a .view) (c .view)) (scaled K beta) (K .mul alpha) (a .slab) (a .slab) (c .slab)) (c .slab) _ r flag after answered told passed
-      (e ∙ as-planned K planned scale weigh (a .slab) (a .slab) (c .slab))
+      gives-work K
+      (update K (c .view) (inTriangle uplo) (accumulate K (scaled K beta) (K .mul alpha) (dot K (opCols t (a .view)) (op K (syrkLeft t) (elem K (a .slab) (a .view))) (op K (syrkRight t) (elem K (a .slab) (a .view))))) (c .slab))
+      (c .slab) _ r flag after answered told passed
+      (e ∙ op-leaves K (syrkLeft t) (syrkRight t) (a .view) (a .view) _ (c .view) (a .slab) (a .slab) (c .slab) (inTriangle uplo) planned scale weigh)
 
 -- ---- herk
 
-module _ (uplo : UpLo) (t : Trans) (a c : View) (la lc : ℕ) (r : Answer) (flag : Bool)
+module _ (t : Trans) (a c : View) (la lc : ℕ) (r : Answer) (flag : Bool)
     (answered : r ≡ herkCheck t a la c lc) (told : flag ≡ isDone r) (passed : flag ≡ true) where
-  pub herk-runs : (plan : Plan) → plan ≡ herkPlan uplo t a c → Ready plan la la lc
-  herk-runs plan planned = rw planned (herk-ready uplo t a c la lc (judge-passed _ _ _ (check-done _ r flag answered told passed)))
+  pub herk-runs : (plan : Plan) → plan ≡ herkPlan t a c → Ready plan la la lc × (plan .target .rows ≡ plan .target .cols)
+  herk-runs plan planned = let h = judge-passed _ _ _ (check-done _ r flag answered told passed) in
+      rw planned (herk-ready t a c la lc h, target-square t a c la lc h)
 
 module _ (K : Kind) (uplo : UpLo) (t : Trans) (alpha : K .Factor) (a : Lent K) (beta : K .Factor) (c : Lent K)
     (r : Answer) (flag : Bool) (answered : r ≡ herkCheck t (a .view) (K .count (a .slab)) (c .view) (K .count (c .slab))) (told : flag ≡ isDone r) where
@@ -140,20 +174,21 @@ module _ (K : Kind) (uplo : UpLo) (t : Trans) (alpha : K .Factor) (a : Lent K) (
   unfolding herk
   herk-refused h = gives-refusal K _ (c .slab) _ r flag answered told h
 
-  pub herk-done : flag ≡ true → (plan : Plan) (byBeta byAlpha : K .Elem → K .Elem) (after : List (K .Cell)) → plan ≡ herkPlan uplo t (a .view) (c .view) → byBeta ≡ scaledReal K beta → byAlpha ≡ K .scaleReal alpha
-      → after ≡ work K plan byBeta byAlpha (a .slab) (a .slab) (c .slab) → Gives K (herk K uplo t alpha a beta c) r after
+  pub herk-done : flag ≡ true → (plan : Plan) (byBeta byAlpha : K .Elem → K .Elem) (after : List (K .Cell)) → plan ≡ herkPlan t (a .view) (c .view) → byBeta ≡ scaledReal K beta → byAlpha ≡ K .scaleReal alpha
+      → after ≡ update K (plan .target) (inTriangle uplo) (planChange K plan byBeta byAlpha (a .slab) (a .slab)) (c .slab) → Gives K (herk K uplo t alpha a beta c) r after
   unfolding herk
   herk-done passed plan byBeta byAlpha after planned scale weigh e =
-      gives-work K (work K (herkPlan uplo t (a .view) (c .view)) (scaledReal K beta) (K .scaleReal alpha) (a .slab) (a .slab) (c .slab)) (c .slab) _ r flag after answered told passed
-      (e ∙ as-planned K planned scale weigh (a .slab) (a .slab) (c .slab))
+      gives-work K
+      (update K (c .view) (inTriangle uplo) (accumulate K (scaledReal K beta) (K .scaleReal alpha) (dot K (opCols t (a .view)) (op K (herkLeft t) (elem K (a .slab) (a .view))) (op K (herkRight t) (elem K (a .slab) (a .view))))) (c .slab))
+      (c .slab) _ r flag after answered told passed
+      (e ∙ op-leaves K (herkLeft t) (herkRight t) (a .view) (a .view) _ (c .view) (a .slab) (a .slab) (c .slab) (inTriangle uplo) planned scale weigh)
 
 -- ---- symm
 
 pub symm-runs : (side : Side) (uplo : UpLo) (a b c : View) (la lb lc : ℕ) (r : Answer) (flag : Bool) → r ≡ symmCheck side a la b lb c lc → flag ≡ isDone r → flag ≡ true
-    → ReadySided side (Symmetric uplo) a la b lb c lc
+    → ReadySided side false uplo a la b lb c lc
 symm-runs side uplo a b c la lb lc r flag answered told passed =
-    sided-ready a b c la lb lc (Symmetric uplo) (λ n i j t e g p q. symmetric-readable a la n i j t e g p q uplo) side
-    (judge-passed _ _ _ (check-done _ r flag answered told passed))
+    sided-ready side false uplo a b c la lb lc (judge-passed _ _ _ (check-done _ r flag answered told passed))
 
 module _ (K : Kind) (side : Side) (uplo : UpLo) (alpha : K .Elem) (a b : Lent K) (beta : K .Elem) (c : Lent K)
     (r : Answer) (flag : Bool) (answered : r ≡ symmCheck side (a .view) (K .count (a .slab)) (b .view) (K .count (b .slab)) (c .view) (K .count (c .slab))) (told : flag ≡ isDone r) where
@@ -162,25 +197,24 @@ module _ (K : Kind) (side : Side) (uplo : UpLo) (alpha : K .Elem) (a b : Lent K)
   symm-refused h = gives-refusal K _ (c .slab) _ r flag answered told h
 
   pub symm-done : flag ≡ true → (byBeta byAlpha : K .Elem → K .Elem) (after : List (K .Cell)) → byBeta ≡ scaled K beta → byAlpha ≡ K .mul alpha
-      → after ≡ sidedWork K side (Symmetric uplo) (a .view) (b .view) (c .view) byBeta byAlpha (a .slab) (b .slab) (c .slab)
+      → after ≡ sidedWork K side false uplo (a .view) (b .view) (c .view) byBeta byAlpha (a .slab) (b .slab) (c .slab)
       → Gives K (symm K side uplo alpha a b beta c) r after
   unfolding symm
   symm-done passed byBeta byAlpha after scale weigh e =
       gives-work K (update K (c .view) everywhere (accumulate K (scaled K beta) (K .mul alpha) (symmProduct K side uplo a b c)) (c .slab)) (c .slab) _ r flag after answered told passed
-      (e ∙ (λ i. sidedWork K side (Symmetric uplo) (a .view) (b .view) (c .view) (scale i) (weigh i) (a .slab) (b .slab) (c .slab)) ∙ same side)
+      (e ∙ (λ i. sidedWork K side false uplo (a .view) (b .view) (c .view) (scale i) (weigh i) (a .slab) (b .slab) (c .slab)) ∙ same side)
     where
-      same : (s : Side) → sidedWork K s (Symmetric uplo) (a .view) (b .view) (c .view) (scaled K beta) (K .mul alpha) (a .slab) (b .slab) (c .slab)
+      same : (s : Side) → sidedWork K s false uplo (a .view) (b .view) (c .view) (scaled K beta) (K .mul alpha) (a .slab) (b .slab) (c .slab)
           ≡ update K (c .view) everywhere (accumulate K (scaled K beta) (K .mul alpha) (symmProduct K s uplo a b c)) (c .slab)
-      same Left = refl
-      same Right = refl
+      same Left = left-leaves K false uplo (a .view) (b .view) _ (c .view) (a .slab) (b .slab) (c .slab) (scaled K beta) (K .mul alpha)
+      same Right = right-leaves K false uplo (a .view) (b .view) _ (c .view) (a .slab) (b .slab) (c .slab) (scaled K beta) (K .mul alpha)
 
 -- ---- hemm
 
 pub hemm-runs : (side : Side) (uplo : UpLo) (a b c : View) (la lb lc : ℕ) (r : Answer) (flag : Bool) → r ≡ hemmCheck side a la b lb c lc → flag ≡ isDone r → flag ≡ true
-    → ReadySided side (Hermitian uplo) a la b lb c lc
+    → ReadySided side true uplo a la b lb c lc
 hemm-runs side uplo a b c la lb lc r flag answered told passed =
-    sided-ready a b c la lb lc (Hermitian uplo) (λ n i j t e g p q. hermitian-readable a la n i j t e g p q uplo) side
-    (judge-passed _ _ _ (check-done _ r flag answered told passed))
+    sided-ready side true uplo a b c la lb lc (judge-passed _ _ _ (check-done _ r flag answered told passed))
 
 module _ (K : Kind) (side : Side) (uplo : UpLo) (alpha : K .Elem) (a b : Lent K) (beta : K .Elem) (c : Lent K)
     (r : Answer) (flag : Bool) (answered : r ≡ hemmCheck side (a .view) (K .count (a .slab)) (b .view) (K .count (b .slab)) (c .view) (K .count (c .slab))) (told : flag ≡ isDone r) where
@@ -189,14 +223,14 @@ module _ (K : Kind) (side : Side) (uplo : UpLo) (alpha : K .Elem) (a b : Lent K)
   hemm-refused h = gives-refusal K _ (c .slab) _ r flag answered told h
 
   pub hemm-done : flag ≡ true → (byBeta byAlpha : K .Elem → K .Elem) (after : List (K .Cell)) → byBeta ≡ scaled K beta → byAlpha ≡ K .mul alpha
-      → after ≡ sidedWork K side (Hermitian uplo) (a .view) (b .view) (c .view) byBeta byAlpha (a .slab) (b .slab) (c .slab)
+      → after ≡ sidedWork K side true uplo (a .view) (b .view) (c .view) byBeta byAlpha (a .slab) (b .slab) (c .slab)
       → Gives K (hemm K side uplo alpha a b beta c) r after
   unfolding hemm
   hemm-done passed byBeta byAlpha after scale weigh e =
       gives-work K (update K (c .view) everywhere (accumulate K (scaled K beta) (K .mul alpha) (hemmProduct K side uplo a b c)) (c .slab)) (c .slab) _ r flag after answered told passed
-      (e ∙ (λ i. sidedWork K side (Hermitian uplo) (a .view) (b .view) (c .view) (scale i) (weigh i) (a .slab) (b .slab) (c .slab)) ∙ same side)
+      (e ∙ (λ i. sidedWork K side true uplo (a .view) (b .view) (c .view) (scale i) (weigh i) (a .slab) (b .slab) (c .slab)) ∙ same side)
     where
-      same : (s : Side) → sidedWork K s (Hermitian uplo) (a .view) (b .view) (c .view) (scaled K beta) (K .mul alpha) (a .slab) (b .slab) (c .slab)
+      same : (s : Side) → sidedWork K s true uplo (a .view) (b .view) (c .view) (scaled K beta) (K .mul alpha) (a .slab) (b .slab) (c .slab)
           ≡ update K (c .view) everywhere (accumulate K (scaled K beta) (K .mul alpha) (hemmProduct K s uplo a b c)) (c .slab)
-      same Left = refl
-      same Right = refl
+      same Left = left-leaves K true uplo (a .view) (b .view) _ (c .view) (a .slab) (b .slab) (c .slab) (scaled K beta) (K .mul alpha)
+      same Right = right-leaves K true uplo (a .view) (b .view) _ (c .view) (a .slab) (b .slab) (c .slab) (scaled K beta) (K .mul alpha)

@@ -1,5 +1,6 @@
 -- The laws of plans, over any number kind, and why a call that its check passes is ready.
-pub mod Laws
-pub mod RunLaws
+pub mod Sums
+pub mod Rows
+pub mod Products
 pub mod Ready
 pub mod Kernels

@@ -1,57 +1,60 @@
--- A call that its check passes is ready: the plan reads and writes inside the slabs.
-use Prim.Native.Nat.{ℕ, _<_}
-use mathlib.Core.Bool.{Bool, true, false}
-use mathlib.Core.List.{List, [], _∷_}
-use mathlib.Core.Path.{_≡_, refl}
+-- A call that its check passes is ready: the plan reads and writes inside the slabs; and what the engine's steps ask follows.
+use Prim.Native.Nat.{ℕ, _≤_, _<_}
+use mathlib.Core.Bool.{Bool, true, false, not}
+use mathlib.Core.List.{[], _∷_}
+use mathlib.Core.Path.{_≡_, refl, sym, subst}
 use native.Mathlib.Omega.{arith}
 use Rattle.view.specs.declared.View.{View}
-use Rattle.view.specs.declared.Answer.the-variants.{Done}
 use Rattle.view.specs.declared.Trans.{Trans}
 use Rattle.view.specs.declared.Trans.the-variants.{NoTrans, Trans as Transposed, ConjTrans}
 use Rattle.view.specs.declared.Side.{Side}
 use Rattle.view.specs.declared.Side.the-variants.{Left, Right}
 use Rattle.view.specs.declared.UpLo.{UpLo}
-use Rattle.view.specs.Refusals.{isVector}
+use Rattle.view.specs.declared.UpLo.the-variants.{Upper, Lower}
 use Rattle.view.specs.Steps.{Accepted}
+use Rattle.view.specs.Place.{opViewOf}
+use Rattle.view.specs.TransposeLaws.{transposed-accepted}
 use Rattle.view.specs.Judge.{arg}
 use Rattle.view.specs.Checks.{opRows, opCols, gemvShape, hemvShape, gemmShape, symmShape, syrkShape}
 use Rattle.view.specs.JudgeLaws.{Passed, gemv-sizes, hemv-sizes, gemm-sizes, symm-sizes, syrk-sizes}
 use Rattle.view.specs.Vector.{columnOf}
 use Rattle.view.specs.VectorLaws.{column-accepted}
+use Rattle.slab.specs.Elem.{Shows}
 use Rattle.blas.specs.Syrk.{syrkLeft, syrkRight}
 use Rattle.blas.specs.Herk.{herkLeft, herkRight}
-use Rattle.product_plan.specs.declared.plan.Reading.{Reading}
-use Rattle.product_plan.specs.declared.plan.Reading.the-variants.{Op, Symmetric, Hermitian}
+use Rattle.product_plan.specs.declared.plan.Factors.{Factors}
 use Rattle.product_plan.specs.declared.plan.Plan.{Plan}
-use Rattle.product_plan.specs.Plan.{turnOf, turnedView, Readable, Factors, Ready}
-use Rattle.product_plan.specs.Plans.{gemmPlan, gemvPlan, hemvPlan, sidedPlan, syrkPlan, herkPlan, ReadySided}
+use Rattle.product_plan.specs.declared.plan.Folded.{Folded}
+use Rattle.product_plan.specs.Plan.{turnOf, Reads, Spans, Ready, FoldedReady, ByRow}
+use Rattle.product_plan.specs.Plans.{opFactors, leftFactors, rightFactors, rowTurn, colTurn, isUpper, leftPlan, rightPlan, gemmPlan, gemvPlan, hemvPlan, syrkPlan, herkPlan, ReadySided}
 
--- ---- readings
+-- ---- what the engine's steps ask
 
-pub op-readable : (t : Trans) (v : View) (len i j : ℕ) → Accepted v len → i < opRows t v → j < opCols t v → Readable (Op t) v len i j
-unfolding turnOf
-op-readable NoTrans v len i j a p q = record { fits = a; row = p; col = q }
-op-readable Transposed v len i j a p q = record { fits = a; row = p; col = q }
-op-readable ConjTrans v len i j a p q = record { fits = a; row = p; col = q }
+pub spans : (f : Factors) (la lb m n k : ℕ) → Reads f la lb m n k → (i j from end : ℕ) → i < m → j < n → from ≤ end → end ≤ k → Spans f la lb i j from end
+spans f la lb m n k r i j from end h g s l =
+    record { ordered = s; left = λ p q. r .left i p h (omega arith); right = λ p q. r .right p j (omega arith) g }
 
--- in a square matrix an element and its mirror image are both inside
-module _ (v : View) (len n i j : ℕ) (a : Accepted v len) (r : v .rows ≡ n) (c : v .cols ≡ n) (p : i < n) (q : j < n) where
-  square-readable : (m : Reading) → Readable m v len i j
-  square-readable m =
-      let h = inside (turnOf m i j .transposed) in
-      record { fits = a; row = h .0; col = h .1 }
-    where
-      inside : (t : Bool) → (i < turnedView t v .rows) × (j < turnedView t v .cols)
-      inside true = (omega arith, omega arith)
-      inside false = (omega arith, omega arith)
+-- a loop's slab keeps its length
+pub ready-kept : (plan : Plan) (la lb lc lc' : ℕ) → lc' ≡ lc → Ready plan la lb lc → Ready plan la lb lc'
+ready-kept plan la lb lc lc' e r = subst (λ (k : ℕ). Ready plan la lb k) (sym e) r
 
-  pub symmetric-readable : (uplo : UpLo) → Readable (Symmetric uplo) v len i j
-  symmetric-readable uplo = square-readable (Symmetric uplo)
+pub folded-kept : (plan : Folded) (la lb lc lc' : ℕ) → lc' ≡ lc → FoldedReady plan la lb lc → FoldedReady plan la lb lc'
+folded-kept plan la lb lc lc' e r = subst (λ (k : ℕ). FoldedReady plan la lb k) (sym e) r
 
-  pub hermitian-readable : (uplo : UpLo) → Readable (Hermitian uplo) v len i j
-  hermitian-readable uplo = square-readable (Hermitian uplo)
+-- ---- op(A) op(B)
 
--- ---- the routines
+op-shows : (t : Trans) (v : View) (len i j : ℕ) → Accepted v len → i < opRows t v → j < opCols t v → Shows (opViewOf t v) len i j
+op-shows NoTrans v len i j a p q = record { fits = a; row = p; col = q }
+op-shows Transposed v len i j a p q = record { fits = transposed-accepted v len a; row = p; col = q }
+op-shows ConjTrans v len i j a p q = record { fits = transposed-accepted v len a; row = p; col = q }
+
+op-reads : (ta tb : Trans) (a b : View) (la lb m n k : ℕ) → Accepted a la → Accepted b lb → m ≡ opRows ta a → k ≡ opCols ta a → k ≡ opRows tb b → n ≡ opCols tb b
+    → Reads (opFactors ta tb a b) la lb m n k
+op-reads ta tb a b la lb m n k fa fb em ek eb en =
+    record {
+      left = λ i p h g. op-shows ta a la i p fa (omega arith) (omega arith);
+      right = λ p j h g. op-shows tb b lb p j fb (omega arith) (omega arith);
+    }
 
 pub gemm-ready : (ta tb : Trans) (a b c : View) (la lb lc : ℕ) → Passed (arg a la ∷ arg b lb ∷ arg c lc ∷ []) (gemmShape ta tb a b c) c
     → Ready (gemmPlan ta tb a b c) la lb lc
@@ -59,10 +62,7 @@ gemm-ready ta tb a b c la lb lc h =
     let s = gemm-sizes ta tb a b c (h .shape) in
     record {
       target = h .each .1 .1 .0;
-      factors = λ i j p q. record {
-        left = λ k g. op-readable ta a la i k (h .each .0) (omega arith) g;
-        right = λ k g. op-readable tb b lb k j (h .each .1 .0) (omega arith) (omega arith);
-      };
+      reads = op-reads ta tb a b la lb _ _ _ (h .each .0) (h .each .1 .0) (s .1) refl (s .0) (s .2);
     }
 
 -- the vectors of a call as columns
@@ -73,53 +73,8 @@ gemv-ready t a x y la lx ly h =
     let cx = column-accepted x lx (s .0 .vector) (h .each .1 .0) in
     record {
       target = column-accepted y ly (s .1 .vector) (h .each .1 .1 .0);
-      factors = λ i j p q. record {
-        left = λ k g. op-readable t a la i k (h .each .0) (omega (arith, s .1 .length)) g;
-        right = λ k g. op-readable NoTrans (columnOf x) lx k j cx (omega (arith, s .0 .length)) q;
-      };
+      reads = op-reads t NoTrans a (columnOf x) la lx _ _ _ (h .each .0) cx (s .1 .length) refl (sym (s .0 .length)) refl;
     }
-
-pub hemv-ready : (uplo : UpLo) (a x y : View) (la lx ly : ℕ) → Passed (arg a la ∷ arg x lx ∷ arg y ly ∷ []) (hemvShape a x y) y
-    → Ready (hemvPlan uplo a x y) la lx ly
-hemv-ready uplo a x y la lx ly h =
-    let s = hemv-sizes a x y (h .shape) in
-    let cx = column-accepted x lx (s .1 .vector) (h .each .1 .0) in
-    record {
-      target = column-accepted y ly (s .2 .vector) (h .each .1 .1 .0);
-      factors = λ i j p q. record {
-        left = λ k g. hermitian-readable a la (a .rows) i k (h .each .0) refl (s .0) (omega (arith, s .2 .length)) g uplo;
-        right = λ k g. op-readable NoTrans (columnOf x) lx k j cx (omega (arith, s .1 .length)) q;
-      };
-    }
-
--- A on a side of B, read by its named triangle
-module _ (a b c : View) (la lb lc : ℕ) (m : Reading)
-    (square : (n i j : ℕ) → Accepted a la → a .rows ≡ n → a .cols ≡ n → i < n → j < n → Readable m a la i j) where
-  left-ready : Passed (arg a la ∷ arg b lb ∷ arg c lc ∷ []) (symmShape Left a b c) c → Ready (sidedPlan Left m a b c) la lb lc
-  left-ready h =
-      let s = symm-sizes Left a b c (h .shape) in
-      record {
-        target = h .each .1 .1 .0;
-        factors = λ i j p q. record {
-          left = λ k g. square (c .rows) i k (h .each .0) (s .0) (s .1) p g;
-          right = λ k g. op-readable NoTrans b lb k j (h .each .1 .0) (omega arith) (omega arith);
-        };
-      }
-
-  right-ready : Passed (arg a la ∷ arg b lb ∷ arg c lc ∷ []) (symmShape Right a b c) c → Ready (sidedPlan Right m a b c) lb la lc
-  right-ready h =
-      let s = symm-sizes Right a b c (h .shape) in
-      record {
-        target = h .each .1 .1 .0;
-        factors = λ i j p q. record {
-          left = λ k g. op-readable NoTrans b lb i k (h .each .1 .0) (omega arith) (omega arith);
-          right = λ k g. square (c .cols) k j (h .each .0) (s .0) (s .1) g q;
-        };
-      }
-
-  pub sided-ready : (side : Side) → Passed (arg a la ∷ arg b lb ∷ arg c lc ∷ []) (symmShape side a b c) c → ReadySided side m a la b lb c lc
-  sided-ready Left h = left-ready h
-  sided-ready Right h = right-ready h
 
 -- how syrk and herk read A has the shape of op(A), and of its transpose on the right
 syrk-left-rows : (t : Trans) (a : View) → (opRows (syrkLeft t) a ≡ opRows t a) × (opCols (syrkLeft t) a ≡ opCols t a)
@@ -142,18 +97,102 @@ herk-right-rows NoTrans a = (refl, refl)
 herk-right-rows Transposed a = (refl, refl)
 herk-right-rows ConjTrans a = (refl, refl)
 
-module _ (uplo : UpLo) (t : Trans) (a c : View) (la lc : ℕ) (h : Passed (arg a la ∷ arg c lc ∷ []) (syrkShape t a c) c) where
+module _ (t : Trans) (a c : View) (la lc : ℕ) (h : Passed (arg a la ∷ arg c lc ∷ []) (syrkShape t a c) c) where
   twice : (tl tr : Trans) → (opRows tl a ≡ opRows t a) × (opCols tl a ≡ opCols t a) → (opRows tr a ≡ opCols t a) × (opCols tr a ≡ opRows t a)
-      → (i j : ℕ) → i < c .rows → j < c .cols → Factors (Op tl) a la (Op tr) a la (opCols t a) i j
-  twice tl tr l r i j p q =
+      → Reads (opFactors tl tr a a) la la (c .rows) (c .cols) (opCols t a)
+  twice tl tr l r =
       let s = syrk-sizes t a c (h .shape) in
+      op-reads tl tr a a la la (c .rows) (c .cols) (opCols t a) (h .each .0) (h .each .0) (omega arith) (omega arith) (omega arith) (omega arith)
+
+  pub target-square : c .rows ≡ c .cols
+  target-square =
+      let s = syrk-sizes t a c (h .shape) in
+      omega arith
+
+  pub syrk-ready : Ready (syrkPlan t a c) la la lc
+  syrk-ready =
       record {
-        left = λ k g. op-readable tl a la i k (h .each .0) (omega arith) (omega arith);
-        right = λ k g. op-readable tr a la k j (h .each .0) (omega arith) (omega arith);
+        target = h .each .1 .0;
+        reads = twice (syrkLeft t) (syrkRight t) (syrk-left-rows t a) (syrk-right-rows t a);
       }
 
-  pub syrk-ready : Ready (syrkPlan uplo t a c) la la lc
-  syrk-ready = record { target = h .each .1 .0; factors = twice (syrkLeft t) (syrkRight t) (syrk-left-rows t a) (syrk-right-rows t a) }
+  pub herk-ready : Ready (herkPlan t a c) la la lc
+  herk-ready =
+      record {
+        target = h .each .1 .0;
+        reads = twice (herkLeft t) (herkRight t) (herk-left-rows t a) (herk-right-rows t a);
+      }
 
-  pub herk-ready : Ready (herkPlan uplo t a c) la la lc
-  herk-ready = record { target = h .each .1 .0; factors = twice (herkLeft t) (herkRight t) (herk-left-rows t a) (herk-right-rows t a) }
+-- ---- A, of which the named triangle is read, on a side of B: A is square, so it is inside however it is read
+
+row-turns : (uplo : UpLo) (i j k : ℕ) → i < k → turnOf (rowTurn uplo) i j ≤ k
+row-turns Upper i j k h = omega arith
+row-turns Lower i j k h = omega arith
+
+row-same : (uplo : UpLo) (i j : ℕ) → turnOf (rowTurn uplo) i 0 ≡ turnOf (rowTurn uplo) i j
+row-same Upper i j = refl
+row-same Lower i j = refl
+
+col-turns : (uplo : UpLo) (i j k : ℕ) → j < k → turnOf (colTurn uplo) i j ≤ k
+col-turns Upper i j k h = omega arith
+col-turns Lower i j k h = omega arith
+
+module _ (conj : Bool) (a b : View) (la lb : ℕ) (fa : Accepted a la) (fb : Accepted b lb) (k : ℕ) (er : a .rows ≡ k) (ec : a .cols ≡ k) where
+  left-reads : (n : ℕ) → b .rows ≡ k → b .cols ≡ n → (mirrored : Bool) → Reads (leftFactors mirrored conj a b) la lb k n k
+  left-reads n br bc true =
+      record {
+        left = λ i p h g. record { fits = transposed-accepted a la fa; row = omega arith; col = omega arith };
+        right = λ p j h g. record { fits = fb; row = omega arith; col = omega arith };
+      }
+  left-reads n br bc false =
+      record {
+        left = λ i p h g. record { fits = fa; row = omega arith; col = omega arith };
+        right = λ p j h g. record { fits = fb; row = omega arith; col = omega arith };
+      }
+
+  right-reads : (m : ℕ) → b .rows ≡ m → b .cols ≡ k → (mirrored : Bool) → Reads (rightFactors mirrored conj a b) lb la m k k
+  right-reads m br bc true =
+      record {
+        left = λ i p h g. record { fits = fb; row = omega arith; col = omega arith };
+        right = λ p j h g. record { fits = transposed-accepted a la fa; row = omega arith; col = omega arith };
+      }
+  right-reads m br bc false =
+      record {
+        left = λ i p h g. record { fits = fb; row = omega arith; col = omega arith };
+        right = λ p j h g. record { fits = fa; row = omega arith; col = omega arith };
+      }
+
+module _ (conj : Bool) (uplo : UpLo) (a b c : View) (la lb lc k : ℕ) (fa : Accepted a la) (fb : Accepted b lb) (fc : Accepted c lc)
+    (er : a .rows ≡ k) (ec : a .cols ≡ k) where
+  left-ready : c .rows ≡ k → b .rows ≡ k → b .cols ≡ c .cols → FoldedReady (leftPlan conj uplo a b k c) la lb lc
+  left-ready ek br bc =
+      let r : (mirrored : Bool) → Reads (leftFactors mirrored conj a b) la lb (c .rows) (c .cols) k =
+      λ m. subst (λ (z : ℕ). Reads (leftFactors m conj a b) la lb z (c .cols) k) (sym ek) (left-reads conj a b la lb fa fb k er ec (c .cols) br bc m) in
+      record { target = fc; head = r (isUpper uplo); tail = r (not (isUpper uplo)); turns = λ i j h g. row-turns uplo i j k (omega arith) }
+
+  left-by-row : c .rows ≡ k → ByRow (leftPlan conj uplo a b k c)
+  left-by-row ek = record { same = row-same uplo; room = λ i h. row-turns uplo i 0 k (omega arith) }
+
+  right-ready : c .cols ≡ k → b .rows ≡ c .rows → b .cols ≡ k → FoldedReady (rightPlan conj uplo a b k c) lb la lc
+  right-ready ek br bc =
+      let r : (mirrored : Bool) → Reads (rightFactors mirrored conj a b) lb la (c .rows) (c .cols) k =
+      λ m. subst (λ (z : ℕ). Reads (rightFactors m conj a b) lb la (c .rows) z k) (sym ek) (right-reads conj a b la lb fa fb k er ec (c .rows) br bc m) in
+      record { target = fc; head = r (not (isUpper uplo)); tail = r (isUpper uplo); turns = λ i j h g. col-turns uplo i j k (omega arith) }
+
+pub hemv-ready : (uplo : UpLo) (a x y : View) (la lx ly : ℕ) → Passed (arg a la ∷ arg x lx ∷ arg y ly ∷ []) (hemvShape a x y) y
+    → FoldedReady (hemvPlan uplo a x y) la lx ly
+hemv-ready uplo a x y la lx ly h =
+    let s = hemv-sizes a x y (h .shape) in
+    left-ready true uplo a (columnOf x) (columnOf y) la lx ly (a .rows) (h .each .0) (column-accepted x lx (s .1 .vector) (h .each .1 .0))
+    (column-accepted y ly (s .2 .vector) (h .each .1 .1 .0)) refl (s .0) (s .2 .length) (s .1 .length) refl
+
+pub sided-ready : (side : Side) (conj : Bool) (uplo : UpLo) (a b c : View) (la lb lc : ℕ)
+    → Passed (arg a la ∷ arg b lb ∷ arg c lc ∷ []) (symmShape side a b c) c → ReadySided side conj uplo a la b lb c lc
+sided-ready Left conj uplo a b c la lb lc h =
+    let s = symm-sizes Left a b c (h .shape) in (
+      left-ready conj uplo a b c la lb lc (c .rows) (h .each .0) (h .each .1 .0) (h .each .1 .1 .0) (s .0) (s .1) refl (s .2) (s .3),
+      left-by-row conj uplo a b c la lb lc (c .rows) (h .each .0) (h .each .1 .0) (h .each .1 .1 .0) (s .0) (s .1) refl,
+    )
+sided-ready Right conj uplo a b c la lb lc h =
+    let s = symm-sizes Right a b c (h .shape) in
+    right-ready conj uplo a b c la lb lc (c .cols) (h .each .0) (h .each .1 .0) (h .each .1 .1 .0) (s .0) (s .1) refl (s .2) (s .3)

@@ -1,4 +1,3 @@
 -- What the product engine's contracts cite: what a plan does, and the plan of each routine.
 pub mod Plan
-pub mod Runs
 pub mod Plans

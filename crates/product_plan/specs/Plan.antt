@@ -1,120 +1,103 @@
--- The one product that all seven routines are: how its operands are read, which elements it writes, and what it leaves.
-use Prim.Native.Nat.{ℕ, _<_}
-use mathlib.Core.Bool.{Bool, true, false, cond}
+-- The product that all seven routines are: where its factors are read, which elements it writes, and what it leaves.
+use Prim.Native.Nat.{ℕ, _+_, _≤_, _<_}
+use mathlib.Core.Bool.{true, false, cond}
 use mathlib.Core.List.{List}
+use mathlib.Core.Path.{_≡_}
+use lib.Dec.{ltb}
 use Rattle.number.specs.Kind.{Kind}
 use Rattle.view.specs.declared.View.{View}
-use Rattle.view.specs.declared.Trans.{Trans}
-use Rattle.view.specs.declared.Trans.the-variants.{NoTrans, Trans as Transposed, ConjTrans}
 use Rattle.view.specs.declared.UpLo.{UpLo}
-use Rattle.view.specs.Place.{index, transposedOf}
+use Rattle.view.specs.declared.UpLo.the-variants.{Upper, Lower}
+use Rattle.view.specs.Place.{index}
 use Rattle.view.specs.Steps.{Accepted}
-use Rattle.slab.specs.Elem.{elem}
-use Rattle.slab.specs.Update.{everywhere, update}
+use Rattle.slab.specs.Run.{plain}
+use Rattle.slab.specs.Elem.{elem, Shows}
 use Rattle.slab.specs.Update as Update
-use Rattle.blas.specs.Matrix.{Matrix, op, symmetric, hermitian, dot, accumulate}
-use Rattle.view.specs.Triangle.{inTriangle}
-use Rattle.product_plan.specs.declared.plan.Reading.{Reading}
-use Rattle.product_plan.specs.declared.plan.Reading.the-variants.{Op, Symmetric, Hermitian}
-use Rattle.product_plan.specs.declared.plan.Mask.{Mask}
-use Rattle.product_plan.specs.declared.plan.Mask.the-variants.{Everywhere, Triangle}
-use Rattle.product_plan.specs.declared.plan.Turn.{Turn}
+use Rattle.blas.specs.Matrix.{Matrix, sum, accumulate}
+use Rattle.product_plan.specs.declared.plan.Factors.{Factors}
 use Rattle.product_plan.specs.declared.plan.Plan.{Plan}
+use Rattle.product_plan.specs.declared.plan.Turn.{Turn}
+use Rattle.product_plan.specs.declared.plan.Turn.the-variants.{AtRow, PastRow, AtCol, PastCol}
+use Rattle.product_plan.specs.declared.plan.Folded.{Folded}
 
--- an operand as the plan reads it
-abbrev pub reading : (K : Kind) → Reading → Matrix K → Matrix K
-reading K (Op t) a i j = op K t a i j
-reading K (Symmetric uplo) a i j = symmetric K uplo a i j
-reading K (Hermitian uplo) a i j = hermitian K uplo a i j
+-- ---- sums
 
--- which elements of the target are written
-abbrev pub admits : Mask → Update.Mask
-admits Everywhere i j = everywhere i j
-admits (Triangle uplo) i j = inTriangle uplo i j
-
--- ---- how an element of an operand is read
-
-abbrev pub turn : Bool → Bool → Turn
-turn transposed conjugated = record { transposed = transposed; conjugated = conjugated }
-
--- in the named triangle as it stands, else its mirror image
-abbrev pub mirrored : Bool → Bool → Turn
-mirrored conjugated named = cond named (turn false false) (turn true conjugated)
-
-abbrev pub opTurn : Trans → Turn
-opTurn NoTrans = turn false false
-opTurn Transposed = turn true false
-opTurn ConjTrans = turn true true
-
-unfoldable pub turnOf : Reading → ℕ → ℕ → Turn
-turnOf (Op t) i j = opTurn t
-turnOf (Symmetric uplo) i j = mirrored false (inTriangle uplo i j)
-turnOf (Hermitian uplo) i j = mirrored true (inTriangle uplo i j)
-
--- all its elements are read alike
-abbrev pub isOp : Reading → Bool
-isOp (Op t) = true
-isOp (Symmetric uplo) = false
-isOp (Hermitian uplo) = false
-
-abbrev pub turnedView : Bool → View → View
-turnedView t v = cond t (transposedOf v) v
+-- term p of element (i, j)
+abbrev pub term : (K : Kind) → Factors → List (K .Cell) → List (K .Cell) → ℕ → ℕ → ℕ → K .Elem
+term K f a b i j p = K .mul (plain K (f .«left_conj») a (f .left) i p) (plain K (f .«right_conj») b (f .right) p j)
 
 -- ---- what a plan does
 
 -- element (i, j) of the product
-abbrev pub planDot : (K : Kind) → Plan → List (K .Cell) → List (K .Cell) → Matrix K
-planDot K plan a b = dot K (plan .terms) (reading K (plan .left) (elem K a (plan .a))) (reading K (plan .right) (elem K b (plan .b)))
+abbrev pub product : (K : Kind) → Plan → List (K .Cell) → List (K .Cell) → Matrix K
+product K plan a b i j = sum K (plan .terms) (term K (plan .factors) a b i j)
 
-module _ (K : Kind) (plan : Plan) (byBeta byAlpha : K .Elem → K .Elem) (a b : List (K .Cell)) where
-  -- what becomes of an element of the target
-  abbrev pub planChange : Update.Change K
-  planChange = accumulate K byBeta byAlpha (planDot K plan a b)
+-- the number of terms before the turn
+abbrev pub turnOf : Turn → ℕ → ℕ → ℕ
+turnOf AtRow i j = i
+turnOf PastRow i j = i + 1
+turnOf AtCol i j = j
+turnOf PastCol i j = j + 1
 
-  -- element (i, j) replaced
-  abbrev pub planPut : ℕ → ℕ → List (K .Cell) → List (K .Cell)
-  planPut i j c = K .put c (index (plan .target) i j) (planChange i j (elem K c (plan .target) i j))
+abbrev pub foldedTerm : (K : Kind) → Folded → List (K .Cell) → List (K .Cell) → ℕ → ℕ → ℕ → K .Elem
+foldedTerm K plan a b i j p = cond (ltb p (turnOf (plan .turn) i j)) (term K (plan .head) a b i j p) (term K (plan .tail) a b i j p)
 
-  -- the same where the mask admits it
-  abbrev pub planStep : ℕ → ℕ → List (K .Cell) → List (K .Cell)
-  planStep i j c = Update.step K (plan .target) (admits (plan .mask)) planChange i j c
+abbrev pub foldedProduct : (K : Kind) → Folded → List (K .Cell) → List (K .Cell) → Matrix K
+foldedProduct K plan a b i j = sum K (plan .terms) (foldedTerm K plan a b i j)
 
-  -- the first n elements of row i, and the first m rows
-  abbrev pub planRow : ℕ → ℕ → List (K .Cell) → List (K .Cell)
-  planRow i n c = Update.row K (plan .target) (admits (plan .mask)) planChange i n c
+-- what becomes of an element of the target
+abbrev pub planChange : (K : Kind) → Plan → (K .Elem → K .Elem) → (K .Elem → K .Elem) → List (K .Cell) → List (K .Cell) → Update.Change K
+planChange K plan byBeta byAlpha a b = accumulate K byBeta byAlpha (product K plan a b)
 
-  abbrev pub planRows : ℕ → List (K .Cell) → List (K .Cell)
-  planRows m c = Update.rows K (plan .target) (admits (plan .mask)) planChange m c
+abbrev pub foldedChange : (K : Kind) → Folded → (K .Elem → K .Elem) → (K .Elem → K .Elem) → List (K .Cell) → List (K .Cell) → Update.Change K
+foldedChange K plan byBeta byAlpha a b = accumulate K byBeta byAlpha (foldedProduct K plan a b)
 
-  -- the whole target
-  abbrev pub work : List (K .Cell) → List (K .Cell)
-  work c = update K (plan .target) (admits (plan .mask)) planChange c
+-- element (i, j) of a slab's view replaced
+abbrev pub replaced : (K : Kind) → View → ℕ → ℕ → (K .Elem → K .Elem) → List (K .Cell) → List (K .Cell)
+replaced K v i j f s = K .put s (index v i j) (f (elem K s v i j))
+
+-- ---- the columns of row i in the named triangle: from the first to before the end
+
+abbrev pub firstCol : UpLo → ℕ → ℕ
+firstCol Upper i = i
+firstCol Lower i = 0
+
+abbrev pub endCol : UpLo → ℕ → ℕ → ℕ
+endCol Upper i n = n
+endCol Lower i n = i + 1
+
+-- of the first n columns of row i the mask admits those from `first` to before `end`
+pub record Columns (mask : Update.Mask) (i n first end : ℕ) : Type 0 where
+  pub ordered : first ≤ end
+  pub within : end ≤ n
+  pub before : (j : ℕ) → j < first → mask i j ≡ false
+  pub inside : (j : ℕ) → first ≤ j → j < end → mask i j ≡ true
+  pub after : (j : ℕ) → end ≤ j → j < n → mask i j ≡ false
 
 -- ---- what the engine asks of its caller: that it reads and writes inside the slabs, of la, lb and lc elements
 
--- element (i, j) of an operand is inside its slab
-pub record Readable (m : Reading) (v : View) (len i j : ℕ) : Type 0 where
-  pub fits : Accepted v len
-  pub row : i < turnedView (turnOf m i j .transposed) v .rows
-  pub col : j < turnedView (turnOf m i j .transposed) v .cols
+-- the factors of every term of m rows and n columns, k terms each
+pub record Reads (f : Factors) (la lb m n k : ℕ) : Type 0 where
+  pub left : (i p : ℕ) → i < m → p < k → Shows (f .left) la i p
+  pub right : (p j : ℕ) → p < k → j < n → Shows (f .right) lb p j
 
--- row i of the left operand and column j of the right one are, with n elements each
-pub record Factors (l : Reading) (va : View) (la : ℕ) (r : Reading) (vb : View) (lb n i j : ℕ) : Type 0 where
-  pub left : (p : ℕ) → p < n → Readable l va la i p
-  pub right : (p : ℕ) → p < n → Readable r vb lb p j
+-- those of the terms of element (i, j) from `from` to before `end`
+pub record Spans (f : Factors) (la lb i j from end : ℕ) : Type 0 where
+  pub ordered : from ≤ end
+  pub left : (p : ℕ) → p < end → Shows (f .left) la i p
+  pub right : (p : ℕ) → p < end → Shows (f .right) lb p j
 
--- every row and column of the target
 pub record Ready (plan : Plan) (la lb lc : ℕ) : Type 0 where
   pub target : Accepted (plan .target) lc
-  pub factors : (i j : ℕ) → i < plan .target .rows → j < plan .target .cols
-      → Factors (plan .left) (plan .a) la (plan .right) (plan .b) lb (plan .terms) i j
+  pub reads : Reads (plan .factors) la lb (plan .target .rows) (plan .target .cols) (plan .terms)
 
--- the same, with a row, and with a row and a column of the target
-pub record ReadyRow (plan : Plan) (la lb lc i : ℕ) : Type 0 where
-  pub ready : Ready plan la lb lc
-  pub row : i < plan .target .rows
+pub record FoldedReady (plan : Folded) (la lb lc : ℕ) : Type 0 where
+  pub target : Accepted (plan .target) lc
+  pub head : Reads (plan .head) la lb (plan .target .rows) (plan .target .cols) (plan .terms)
+  pub tail : Reads (plan .tail) la lb (plan .target .rows) (plan .target .cols) (plan .terms)
+  pub turns : (i j : ℕ) → i < plan .target .rows → j < plan .target .cols → turnOf (plan .turn) i j ≤ plan .terms
 
-pub record ReadyAt (plan : Plan) (la lb lc i j : ℕ) : Type 0 where
-  pub ready : Ready plan la lb lc
-  pub row : i < plan .target .rows
-  pub col : j < plan .target .cols
+-- the turn is the same in all columns of a row
+pub record ByRow (plan : Folded) : Type 0 where
+  pub same : (i j : ℕ) → turnOf (plan .turn) i 0 ≡ turnOf (plan .turn) i j
+  pub room : (i : ℕ) → i < plan .target .rows → turnOf (plan .turn) i 0 ≤ plan .terms

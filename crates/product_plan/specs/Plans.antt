@@ -1,5 +1,6 @@
 -- The plan of each routine.
 use Prim.Native.Nat.{ℕ}
+use mathlib.Core.Bool.{Bool, true, false, cond, not}
 use mathlib.Core.List.{List}
 use Rattle.number.specs.Kind.{Kind}
 use Rattle.view.specs.declared.View.{View}
@@ -8,50 +9,88 @@ use Rattle.view.specs.declared.Trans.the-variants.{NoTrans}
 use Rattle.view.specs.declared.Side.{Side}
 use Rattle.view.specs.declared.Side.the-variants.{Left, Right}
 use Rattle.view.specs.declared.UpLo.{UpLo}
+use Rattle.view.specs.declared.UpLo.the-variants.{Upper, Lower}
+use Rattle.view.specs.Place.{transposedOf, opViewOf, isConj}
 use Rattle.view.specs.Checks.{opCols}
 use Rattle.view.specs.Vector.{columnOf}
+use Rattle.slab.specs.Update.{everywhere, update}
 use Rattle.blas.specs.Syrk.{syrkLeft, syrkRight}
 use Rattle.blas.specs.Herk.{herkLeft, herkRight}
-use Rattle.product_plan.specs.declared.plan.Reading.{Reading}
-use Rattle.product_plan.specs.declared.plan.Reading.the-variants.{Op, Hermitian}
-use Rattle.product_plan.specs.declared.plan.Mask.the-variants.{Everywhere, Triangle}
+use Rattle.product_plan.specs.declared.plan.Factors.{Factors}
+use Rattle.product_plan.specs.declared.plan.Turn.{Turn}
+use Rattle.product_plan.specs.declared.plan.Turn.the-variants.{AtRow, PastRow, AtCol, PastCol}
 use Rattle.product_plan.specs.declared.plan.Plan.{Plan}
-use Rattle.product_plan.specs.Plan.{work, Ready}
+use Rattle.product_plan.specs.declared.plan.Folded.{Folded}
+use Rattle.product_plan.specs.Plan.{foldedChange, FoldedReady, ByRow}
+
+-- ---- op(A) op(B)
+
+abbrev pub opFactors : Trans → Trans → View → View → Factors
+opFactors ta tb a b = record { left = opViewOf ta a; «left_conj» = isConj ta; right = opViewOf tb b; «right_conj» = isConj tb }
+
+abbrev pub opPlan : Trans → Trans → View → View → ℕ → View → Plan
+opPlan ta tb a b n c = record { factors = opFactors ta tb a b; terms = n; target = c }
 
 abbrev pub gemmPlan : Trans → Trans → View → View → View → Plan
-gemmPlan ta tb a b c =
-    record { mask = Everywhere; left = Op ta; a = a; right = Op tb; b = b; terms = opCols ta a; target = c }
+gemmPlan ta tb a b c = opPlan ta tb a b (opCols ta a) c
 
 -- a vector is a matrix of one column
 abbrev pub gemvPlan : Trans → View → View → View → Plan
 gemvPlan t a x y = gemmPlan t NoTrans a (columnOf x) (columnOf y)
 
-abbrev pub hemvPlan : UpLo → View → View → View → Plan
-hemvPlan uplo a x y =
-    record { mask = Everywhere; left = Hermitian uplo; a = a; right = Op NoTrans; b = columnOf x; terms = a .rows; target = columnOf y }
+abbrev pub syrkPlan : Trans → View → View → Plan
+syrkPlan t a c = opPlan (syrkLeft t) (syrkRight t) a a (opCols t a) c
 
--- A with its own reading on the left or on the right of B
-abbrev pub sidedPlan : Side → Reading → View → View → View → Plan
-sidedPlan Left m a b c =
-    record { mask = Everywhere; left = m; a = a; right = Op NoTrans; b = b; terms = c .rows; target = c }
-sidedPlan Right m a b c =
-    record { mask = Everywhere; left = Op NoTrans; a = b; right = m; b = a; terms = c .cols; target = c }
+abbrev pub herkPlan : Trans → View → View → Plan
+herkPlan t a c = opPlan (herkLeft t) (herkRight t) a a (opCols t a) c
 
-abbrev pub syrkPlan : UpLo → Trans → View → View → Plan
-syrkPlan uplo t a c =
-    record { mask = Triangle uplo; left = Op (syrkLeft t); a = a; right = Op (syrkRight t); b = a; terms = opCols t a; target = c }
+-- ---- A, of which the named triangle is read, on a side of B: an element outside the triangle is its mirror image, conjugated or not
 
-abbrev pub herkPlan : UpLo → Trans → View → View → Plan
-herkPlan uplo t a c =
-    record { mask = Triangle uplo; left = Op (herkLeft t); a = a; right = Op (herkRight t); b = a; terms = opCols t a; target = c }
+abbrev pub leftFactors : Bool → Bool → View → View → Factors
+leftFactors mirrored conj a b =
+    cond mirrored
+    (record { left = transposedOf a; «left_conj» = conj; right = b; «right_conj» = false })
+    (record { left = a; «left_conj» = false; right = b; «right_conj» = false })
 
--- ---- A on a side of B: the slabs change places with the operands
+abbrev pub rightFactors : Bool → Bool → View → View → Factors
+rightFactors mirrored conj a b =
+    cond mirrored
+    (record { left = b; «left_conj» = false; right = transposedOf a; «right_conj» = conj })
+    (record { left = b; «left_conj» = false; right = a; «right_conj» = false })
 
-abbrev pub sidedWork : (K : Kind) → Side → Reading → View → View → View → (K .Elem → K .Elem) → (K .Elem → K .Elem)
+abbrev pub isUpper : UpLo → Bool
+isUpper Upper = true
+isUpper Lower = false
+
+-- row i of A leaves a triangle at the diagonal or past it, column j of A the other way round
+abbrev pub rowTurn : UpLo → Turn
+rowTurn Upper = AtRow
+rowTurn Lower = PastRow
+
+abbrev pub colTurn : UpLo → Turn
+colTurn Upper = PastCol
+colTurn Lower = AtCol
+
+abbrev pub leftPlan : Bool → UpLo → View → View → ℕ → View → Folded
+leftPlan conj uplo a b n c =
+    record { turn = rowTurn uplo; head = leftFactors (isUpper uplo) conj a b; tail = leftFactors (not (isUpper uplo)) conj a b; terms = n; target = c }
+
+abbrev pub rightPlan : Bool → UpLo → View → View → ℕ → View → Folded
+rightPlan conj uplo a b n c =
+    record { turn = colTurn uplo; head = rightFactors (not (isUpper uplo)) conj a b; tail = rightFactors (isUpper uplo) conj a b; terms = n; target = c }
+
+abbrev pub hemvPlan : UpLo → View → View → View → Folded
+hemvPlan uplo a x y = leftPlan true uplo a (columnOf x) (a .rows) (columnOf y)
+
+-- ---- the slabs change places with the operands
+
+abbrev pub sidedWork : (K : Kind) → Side → Bool → UpLo → View → View → View → (K .Elem → K .Elem) → (K .Elem → K .Elem)
     → List (K .Cell) → List (K .Cell) → List (K .Cell) → List (K .Cell)
-sidedWork K Left m va vb vc byBeta byAlpha a b c = work K (sidedPlan Left m va vb vc) byBeta byAlpha a b c
-sidedWork K Right m va vb vc byBeta byAlpha a b c = work K (sidedPlan Right m va vb vc) byBeta byAlpha b a c
+sidedWork K Left conj uplo va vb vc byBeta byAlpha a b c =
+    update K vc everywhere (foldedChange K (leftPlan conj uplo va vb (vc .rows) vc) byBeta byAlpha a b) c
+sidedWork K Right conj uplo va vb vc byBeta byAlpha a b c =
+    update K vc everywhere (foldedChange K (rightPlan conj uplo va vb (vc .cols) vc) byBeta byAlpha b a) c
 
-abbrev pub ReadySided : Side → Reading → View → ℕ → View → ℕ → View → ℕ → Type 0
-ReadySided Left m va la vb lb vc lc = Ready (sidedPlan Left m va vb vc) la lb lc
-ReadySided Right m va la vb lb vc lc = Ready (sidedPlan Right m va vb vc) lb la lc
+abbrev pub ReadySided : Side → Bool → UpLo → View → ℕ → View → ℕ → View → ℕ → Type 0
+ReadySided Left conj uplo va la vb lb vc lc = FoldedReady (leftPlan conj uplo va vb (vc .rows) vc) la lb lc × ByRow (leftPlan conj uplo va vb (vc .rows) vc)
+ReadySided Right conj uplo va la vb lb vc lc = FoldedReady (rightPlan conj uplo va vb (vc .cols) vc) lb la lc

@@ -5,33 +5,53 @@ ghost use mathlib.Core.Bool.{true};
 ghost use Rattle.view.specs.Refusals.{isVector};
 ghost use Rattle.blas.specs.Syrk.{syrkLeft, syrkRight};
 ghost use Rattle.blas.specs.Herk.{herkLeft, herkRight};
-ghost use Rattle.view.specs.declared.Side.the-variants as Side;
-ghost use Rattle.product_plan.specs.Plans.{gemmPlan, gemvPlan, hemvPlan, sidedPlan, syrkPlan, herkPlan};
-use crate::plan::Mask;
+ghost use Rattle.product_plan.specs.Plans.{opFactors, opPlan, gemmPlan, gemvPlan, hemvPlan, leftFactors, rightFactors, isUpper, rowTurn, colTurn, leftPlan, rightPlan, syrkPlan, herkPlan};
+use crate::plan::Factors;
+use crate::plan::Folded;
 use crate::plan::Plan;
-use crate::plan::Reading;
-use view::Side;
+use crate::plan::Turn;
 use view::Trans;
 use view::UpLo;
 use view::View;
-use view::cols;
 use view::column;
+use view::conjugates;
 use view::op_cols;
+use view::op_view;
 use view::rows;
+use view::transposed;
+
+// op(A) and op(B).
+fn op_factors(ta: Trans, tb: Trans, a: View, b: View) -> Factors
+    ensures { λ r. ⌜ r ≡ opFactors ta tb a b ⌝ }
+{
+    let left = op_view(ta, a);
+    let left_conj = conjugates(ta);
+    let right = op_view(tb, b);
+    let right_conj = conjugates(tb);
+    Factors {
+        left,
+        left_conj,
+        right,
+        right_conj,
+    }
+}
+
+fn op_plan(ta: Trans, tb: Trans, a: View, b: View, terms: usize, c: View) -> Plan
+    ensures { λ r. ⌜ r ≡ opPlan ta tb a b terms c ⌝ }
+{
+    let factors = op_factors(ta, tb, a, b);
+    Plan {
+        factors,
+        terms,
+        target: c,
+    }
+}
 
 pub fn gemm_plan(ta: Trans, tb: Trans, a: View, b: View, c: View) -> Plan
     ensures { λ r. ⌜ r ≡ gemmPlan ta tb a b c ⌝ }
 {
     let terms = op_cols(ta, a);
-    Plan {
-        mask: Mask::Everywhere,
-        left: Reading::Op(ta),
-        a,
-        right: Reading::Op(tb),
-        b,
-        terms,
-        target: c,
-    }
+    op_plan(ta, tb, a, b, terms, c)
 }
 
 pub fn gemv_plan(t: Trans, a: View, x: View, y: View) -> Plan
@@ -43,54 +63,119 @@ pub fn gemv_plan(t: Trans, a: View, x: View, y: View) -> Plan
     gemm_plan(t, Trans::NoTrans, a, b, c)
 }
 
-pub fn hemv_plan(uplo: UpLo, a: View, x: View, y: View) -> Plan
-    requires { ⌜ (isVector x ≡ true) × (isVector y ≡ true) ⌝ }
-    ensures { λ r. ⌜ r ≡ hemvPlan uplo a x y ⌝ }
+// A, or its mirror image, on the left of B.
+fn left_factors(mirrored: bool, conj: bool, a: View, b: View) -> Factors
+    ensures { λ r. ⌜ r ≡ leftFactors mirrored conj a b ⌝ }
 {
-    let b = column(x);
-    let c = column(y);
-    let terms = rows(a);
-    Plan {
-        mask: Mask::Everywhere,
-        left: Reading::Hermitian(uplo),
-        a,
-        right: Reading::Op(Trans::NoTrans),
-        b,
-        terms,
-        target: c,
+    if mirrored {
+        Factors {
+            left: transposed(a),
+            left_conj: conj,
+            right: b,
+            right_conj: false,
+        }
+    } else {
+        Factors {
+            left: a,
+            left_conj: false,
+            right: b,
+            right_conj: false,
+        }
     }
 }
 
-// A on the left of B, read as m says.
-pub fn left_plan(m: Reading, a: View, b: View, c: View) -> Plan
-    ensures { λ r. ⌜ r ≡ sidedPlan Side.Left m a b c ⌝ }
+// A, or its mirror image, on the right of B.
+fn right_factors(mirrored: bool, conj: bool, a: View, b: View) -> Factors
+    ensures { λ r. ⌜ r ≡ rightFactors mirrored conj a b ⌝ }
 {
-    let terms = rows(c);
-    Plan {
-        mask: Mask::Everywhere,
-        left: m,
-        a,
-        right: Reading::Op(Trans::NoTrans),
-        b,
+    if mirrored {
+        Factors {
+            left: b,
+            left_conj: false,
+            right: transposed(a),
+            right_conj: conj,
+        }
+    } else {
+        Factors {
+            left: b,
+            left_conj: false,
+            right: a,
+            right_conj: false,
+        }
+    }
+}
+
+fn is_upper(uplo: UpLo) -> bool
+    ensures { λ r. ⌜ r ≡ isUpper uplo ⌝ }
+{
+    match uplo {
+        UpLo::Upper => true,
+        UpLo::Lower => false,
+    }
+}
+
+// Where row i of A leaves a triangle: the upper one begins with the diagonal, the lower one ends with it.
+fn row_turn(uplo: UpLo) -> Turn
+    ensures { λ r. ⌜ r ≡ rowTurn uplo ⌝ }
+{
+    match uplo {
+        UpLo::Upper => Turn::AtRow,
+        UpLo::Lower => Turn::PastRow,
+    }
+}
+
+// Where column j of A does.
+fn col_turn(uplo: UpLo) -> Turn
+    ensures { λ r. ⌜ r ≡ colTurn uplo ⌝ }
+{
+    match uplo {
+        UpLo::Upper => Turn::PastCol,
+        UpLo::Lower => Turn::AtCol,
+    }
+}
+
+// A on the left of B.
+pub fn left_plan(conj: bool, uplo: UpLo, a: View, b: View, terms: usize, c: View) -> Folded
+    ensures { λ r. ⌜ r ≡ leftPlan conj uplo a b terms c ⌝ }
+{
+    let upper = is_upper(uplo);
+    let turn = row_turn(uplo);
+    let head = left_factors(upper, conj, a, b);
+    let tail = left_factors(!upper, conj, a, b);
+    Folded {
+        turn,
+        head,
+        tail,
         terms,
         target: c,
     }
 }
 
 // A on the right of B.
-pub fn right_plan(m: Reading, a: View, b: View, c: View) -> Plan
-    ensures { λ r. ⌜ r ≡ sidedPlan Side.Right m a b c ⌝ }
+pub fn right_plan(conj: bool, uplo: UpLo, a: View, b: View, terms: usize, c: View) -> Folded
+    ensures { λ r. ⌜ r ≡ rightPlan conj uplo a b terms c ⌝ }
 {
-    let terms = cols(c);
-    Plan {
-        mask: Mask::Everywhere,
-        left: Reading::Op(Trans::NoTrans),
-        a: b,
-        right: m,
-        b: a,
+    let upper = is_upper(uplo);
+    let turn = col_turn(uplo);
+    let head = right_factors(!upper, conj, a, b);
+    let tail = right_factors(upper, conj, a, b);
+    Folded {
+        turn,
+        head,
+        tail,
         terms,
         target: c,
     }
+}
+
+pub fn hemv_plan(uplo: UpLo, a: View, x: View, y: View) -> Folded
+    requires { ⌜ (isVector x ≡ true) × (isVector y ≡ true) ⌝ }
+    ensures { λ r. ⌜ r ≡ hemvPlan uplo a x y ⌝ }
+{
+    let b = column(x);
+    let c = column(y);
+    let terms = rows(a);
+    left_plan(true, uplo, a, b, terms, c)
 }
 
 fn syrk_left(t: Trans) -> Trans
@@ -133,36 +218,20 @@ fn herk_right(t: Trans) -> Trans
     }
 }
 
-pub fn syrk_plan(uplo: UpLo, t: Trans, a: View, c: View) -> Plan
-    ensures { λ r. ⌜ r ≡ syrkPlan uplo t a c ⌝ }
+pub fn syrk_plan(t: Trans, a: View, c: View) -> Plan
+    ensures { λ r. ⌜ r ≡ syrkPlan t a c ⌝ }
 {
     let left = syrk_left(t);
     let right = syrk_right(t);
     let terms = op_cols(t, a);
-    Plan {
-        mask: Mask::Triangle(uplo),
-        left: Reading::Op(left),
-        a,
-        right: Reading::Op(right),
-        b: a,
-        terms,
-        target: c,
-    }
+    op_plan(left, right, a, a, terms, c)
 }
 
-pub fn herk_plan(uplo: UpLo, t: Trans, a: View, c: View) -> Plan
-    ensures { λ r. ⌜ r ≡ herkPlan uplo t a c ⌝ }
+pub fn herk_plan(t: Trans, a: View, c: View) -> Plan
+    ensures { λ r. ⌜ r ≡ herkPlan t a c ⌝ }
 {
     let left = herk_left(t);
     let right = herk_right(t);
     let terms = op_cols(t, a);
-    Plan {
-        mask: Mask::Triangle(uplo),
-        left: Reading::Op(left),
-        a,
-        right: Reading::Op(right),
-        b: a,
-        terms,
-        target: c,
-    }
+    op_plan(left, right, a, a, terms, c)
 }

@@ -1,24 +1,22 @@
 use Prim.Native.Nat.{_≤_, _-_}
-use mathlib.Core.Path.{_≡_, refl}
+use mathlib.Core.Path.{_≡_}
 use native.Mathlib.Omega.{arith}
 use denote.Ref.{now}
 use Rattle.number.specs.Kind.{complex}
-use Rattle.product_plan.specs.Runs.{more, plain}
-use Rattle.product_plan.proofs.RunLaws.{more-start, more-end, more-next}
+use Rattle.slab.specs.Run.{more}
+use Rattle.product_plan.specs.Plan.{term}
+use Rattle.product_plan.proofs.Sums.{more-start, more-end, term-next}
 use Rattle.product.proofs.complex.add_run.Statement.{statement}
 use Rattle.product.proofs.complex.add_run.Tie as tie
 
 abbrev Inv-loop : tie.InvT-loop
-Inv-loop ca a va cb b vb i j from n total₀ k₀ total k = (k ≤ n) × (total ≡ more complex (total₀) (λ p. complex .mul (plain complex ca a va i p) (plain complex cb b vb p j)) from k)
+Inv-loop f a b i j from end total₀ p₀ total p = (from ≤ p) × (p ≤ end) × (total ≡ more complex total₀ (term complex f a b i j) from (p - from))
 
 abbrev μ-loop : tie.MeasureT-loop
-μ-loop ca a va cb b vb i j from n total₀ k₀ total k = n - k
+μ-loop f a b i j from end total₀ p₀ total p = end - p
 
 loop-holds : tie.Need-loop-holds Inv-loop μ-loop
-loop-holds c = (omega arith, more-start complex _ _ _)
-
-add-p : tie.Need-add-p Inv-loop μ-loop
-add-p c = let h = c .before .before .before .before .pre .left (c .before .loop .k) (omega arith) in omega (arith, h .col, h .fits .cols-le)
+loop-holds c = (omega arith, c .before .before .pre .ordered, more-start complex _ _ _)
 
 at-requires : tie.Need-at-requires Inv-loop μ-loop
 at-requires c κs = c .before .before .before .before .pre .left _ (omega arith)
@@ -32,8 +30,8 @@ mul-requires c κs = tt
 add-requires : tie.Need-add-requires Inv-loop μ-loop
 add-requires c κs = tt
 
-add-k : tie.Need-add-k Inv-loop μ-loop
-add-k c = omega arith
+add-p : tie.Need-add-p Inv-loop μ-loop
+add-p c = omega arith
 
 loop-less : tie.Need-loop-less Inv-loop μ-loop
 loop-less c = omega arith
@@ -41,10 +39,10 @@ loop-less c = omega arith
 loop-again : tie.Need-loop-again Inv-loop μ-loop
 loop-again c =
     let p = c .before .before .before .before .before .before .before .before .args in
-    (omega arith, more-next complex (λ q. plain complex (p .ca) (now (p .a)) (p .va) (p .i) q) (λ q. plain complex (p .cb) (now (p .b)) (p .vb) q (p .j)) _ _ _ _ _ _ _ _ (c .before .before .before .before .before .loop .inv .1) (c .before .before .before .at .ensures) (c .before .before .at2 .ensures) (c .before .mul .ensures) (c .add .ensures))
+    (omega arith, omega arith, term-next complex (p .f) (now (p .a)) (now (p .b)) (p .i) (p .j) _ _ _ _ _ _ _ _ (c .before .before .before .before .before .loop .inv .0) (c .before .before .before .before .before .loop .inv .2) (c .before .before .before .at .ensures) (c .before .before .at2 .ensures) (c .before .mul .ensures) (c .add .ensures))
 
 returns : tie.Need-returns Inv-loop μ-loop
-returns c = more-end complex _ _ _ _ _ _ (c .before .loop .inv .0) (omega arith) (c .before .loop .inv .1)
+returns c = more-end complex _ _ _ _ _ _ (c .before .loop .inv .1) (omega arith) (c .before .loop .inv .2)
 
 pub add-run-spec : {M : Type 1} → statement M
 add-run-spec =
@@ -53,12 +51,11 @@ add-run-spec =
     Inv-loop
     μ-loop
     loop-holds
-    add-p
     at-requires
     at-requires-2
     mul-requires
     add-requires
-    add-k
+    add-p
     loop-less
     loop-again
     returns)

@@ -19,14 +19,14 @@ gemv-plan-requires c κs = gemv-vectors _ _ _ _ _ _ _ _ _ (c .before .before .ch
 judge-requires : tie.Need-judge-requires
 judge-requires c κs = tt
 
-run-requires : tie.Need-run-requires
-run-requires c κs = gemv-runs _ _ _ _ _ _ _ _ _ (c .before .before .before .before .before .check-gemv .ensures) (c .before .before .before .before .passed .ensures) (c .before .before .before .if1 .taken) _ (c .before .before .gemv-plan .ensures)
+run-column-requires : tie.Need-run-column-requires
+run-column-requires c κs = gemv-runs _ _ _ _ _ _ _ _ _ (c .before .before .before .before .before .check-gemv .ensures) (c .before .before .before .before .passed .ensures) (c .before .before .before .if1 .taken) _ (c .before .before .gemv-plan .ensures)
 
 same-length : tie.Need-same-length
 same-length c = search needs
 
 returns : tie.Need-returns
-returns c = gemv-done complex _ _ _ _ _ _ _ _ (c .before .before .before .before .before .before .before .before .check-gemv .ensures) (c .before .before .before .before .before .before .before .passed .ensures) (c .before .before .before .before .before .before .if1 .taken) _ _ _ _ (c .before .before .before .before .before .gemv-plan .ensures) (ap scaleByComplex (c .before .before .before .before .judge .ensures) ∙ scale-complex _) refl (c .before .before .run .ensures)
+returns c = gemv-done complex _ _ _ _ _ _ _ _ (c .before .before .before .before .before .before .before .before .check-gemv .ensures) (c .before .before .before .before .before .before .before .passed .ensures) (c .before .before .before .before .before .before .if1 .taken) _ _ _ _ (c .before .before .before .before .before .gemv-plan .ensures) (ap scaleByComplex (c .before .before .before .before .judge .ensures) ∙ scale-complex _) refl (c .before .before .run-column .ensures)
 
 returns-2 : tie.Need-returns-2
 returns-2 c = gemv-refused complex _ _ _ _ _ _ _ _ (c .before .before .check-gemv .ensures) (c .before .passed .ensures) (c .if1 .left)
@@ -39,7 +39,7 @@ gemv-spec =
     passed-requires
     gemv-plan-requires
     judge-requires
-    run-requires
+    run-column-requires
     same-length
     returns
     returns-2)

@@ -19,14 +19,14 @@ herk-plan-requires c κs = tt
 judge-real-requires : tie.Need-judge-real-requires
 judge-real-requires c κs = tt
 
-run-requires : tie.Need-run-requires
-run-requires c κs = herk-runs _ _ _ _ _ _ _ _ (c .before .before .before .before .before .check-herk .ensures) (c .before .before .before .before .passed .ensures) (c .before .before .before .if1 .taken) _ (c .before .before .herk-plan .ensures)
+run-triangle-requires : tie.Need-run-triangle-requires
+run-triangle-requires c κs = herk-runs _ _ _ _ _ _ _ (c .before .before .before .before .before .check-herk .ensures) (c .before .before .before .before .passed .ensures) (c .before .before .before .if1 .taken) _ (c .before .before .herk-plan .ensures)
 
 same-length : tie.Need-same-length
 same-length c = search needs
 
 returns : tie.Need-returns
-returns c = herk-done complex _ _ _ _ _ _ _ _ (c .before .before .before .before .before .before .before .before .check-herk .ensures) (c .before .before .before .before .before .before .before .passed .ensures) (c .before .before .before .before .before .before .if1 .taken) _ _ _ _ (c .before .before .before .before .before .herk-plan .ensures) (ap scaleByComplex (c .before .before .before .before .judge-real .ensures) ∙ scale-real _) refl (c .before .before .run .ensures)
+returns c = herk-done complex _ _ _ _ _ _ _ _ (c .before .before .before .before .before .before .before .before .check-herk .ensures) (c .before .before .before .before .before .before .before .passed .ensures) (c .before .before .before .before .before .before .if1 .taken) _ _ _ _ (c .before .before .before .before .before .herk-plan .ensures) (ap scaleByComplex (c .before .before .before .before .judge-real .ensures) ∙ scale-real _) refl (c .before .before .run-triangle .ensures)
 
 returns-2 : tie.Need-returns-2
 returns-2 c = herk-refused complex _ _ _ _ _ _ _ _ (c .before .before .check-herk .ensures) (c .before .passed .ensures) (c .if1 .left)
@@ -39,7 +39,7 @@ herk-spec =
     passed-requires
     herk-plan-requires
     judge-real-requires
-    run-requires
+    run-triangle-requires
     same-length
     returns
     returns-2)

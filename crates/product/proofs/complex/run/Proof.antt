@@ -2,18 +2,17 @@ use Prim.Native.Nat.{ℕ, _≤_, _-_, _/_}
 use mathlib.Core.Path.{_≡_, refl, ap, _∙_}
 use native.Mathlib.Omega.{arith}
 use lib.ListN.{length}
-use borrow.Author.Needs.{needs}
 use Rattle.number.specs.Kind.{complex}
 use Rattle.number.specs.Scaling.{scaleByComplex, times}
-use Rattle.slab.specs.Update.{rows as rowsOf}
+use Rattle.slab.specs.Update.{everywhere, rows as rowsOf}
 use Rattle.slab.proofs.LoopLaws.{rows-next, rows-last}
-use Rattle.product_plan.specs.Plan.{planRows}
-use Rattle.product_plan.proofs.Laws.{ready-row}
+use Rattle.product_plan.specs.Plan.{planChange}
+use Rattle.product_plan.proofs.Ready.{ready-kept}
 use Rattle.product.proofs.complex.run.Statement.{statement}
 use Rattle.product.proofs.complex.run.Tie as tie
 
 abbrev Inv-loop : tie.InvT-loop
-Inv-loop plan a b alpha beta c₀ m i₀ c i = (i ≤ m) × (length c ≡ length c₀) × (c ≡ planRows complex plan (scaleByComplex beta) (times alpha) a b i c₀)
+Inv-loop plan a b alpha beta c₀ m i₀ c i = (i ≤ m) × (length c ≡ length c₀) × (c ≡ rowsOf complex (plan .target) everywhere (planChange complex plan (scaleByComplex beta) (times alpha) a b) i c₀)
 
 abbrev μ-loop : tie.MeasureT-loop
 μ-loop plan a b alpha beta c₀ m i₀ c i = m - i
@@ -26,7 +25,7 @@ unfolding rowsOf
 loop-holds c = (omega arith, refl, refl)
 
 row-requires : tie.Need-row-requires Inv-loop μ-loop
-row-requires c κs = ready-row _ _ _ _ _ (ap (λ (k : ℕ). k / 2) (c .before .before .loop .inv .1)) (c .before .before .before .before .before .before .before .pre) _ _ (c .before .before .before .rows .ensures) (omega arith)
+row-requires c κs = (ready-kept _ _ _ _ _ (ap (λ (k : ℕ). k / 2) (c .before .before .loop .inv .1)) (c .before .before .before .before .before .before .before .pre), omega (arith, c .before .before .before .rows .ensures))
 
 add-i : tie.Need-add-i Inv-loop μ-loop
 add-i c = omega arith

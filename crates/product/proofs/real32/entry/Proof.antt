@@ -1,49 +1,27 @@
 use native.Mathlib.Omega.{arith}
+use lib.Ieee.{binary32}
 use denote.Ref.{now}
 use borrow.Author.Needs.{needs}
+use Rattle.number.proofs.Literals.{zero-literal}
 use Rattle.number.specs.Scaling.{scaleBy32}
 use Rattle.number.specs.Kind.{real32}
-use Rattle.product_plan.proofs.Laws.{target-shown, target-inside, entry-put}
+use Rattle.product_plan.proofs.Sums.{sum-whole}
+use Rattle.product_plan.proofs.Rows.{entry-put}
+use Rattle.product_plan.proofs.Ready.{spans}
 use Rattle.product.proofs.real32.entry.Statement.{statement}
 use Rattle.product.proofs.real32.entry.Tie as tie
 
-dot-requires : tie.Need-dot-requires
-dot-requires c κs = c .before .before .before .pre .ready .factors _ _ (c .before .before .before .pre .row) (c .before .before .before .pre .col)
+add-run-requires : tie.Need-add-run-requires
+add-run-requires c κs = spans _ _ _ _ _ _ (c .before .before .before .pre .0 .reads) _ _ _ _ (c .before .before .before .pre .1) (c .before .before .before .pre .2) (omega arith) (omega arith)
 
-place-requires : tie.Need-place-requires
-place-requires c κs = target-shown _ _ _ _ _ _ (c .before .before .before .before .pre) (omega arith)
-
-get32-requires : tie.Need-get32-requires
-get32-requires c κs = omega (arith, target-inside _ _ _ _ _ _ (c .before .before .before .before .before .before .pre), c .before .place .ensures)
-
-scale-requires : tie.Need-scale-requires
-scale-requires c κs = tt
-
-mul-requires : tie.Need-mul-requires
-mul-requires c κs = tt
-
-add-requires : tie.Need-add-requires
-add-requires c κs = tt
-
-put32-requires : tie.Need-put32-requires
-put32-requires c κs = omega (arith, target-inside _ _ _ _ _ _ (c .before .before .before .before .before .before .before .before .before .before .before .pre), c .before .before .before .before .before .before .place .ensures)
+settle-requires : tie.Need-settle-requires
+settle-requires c κs = record { fits = c .before .before .before .before .before .pre .0 .target; row = c .before .before .before .before .before .pre .1; col = c .before .before .before .before .before .pre .2 }
 
 same-length : tie.Need-same-length
 same-length c = search needs
 
 returns : tie.Need-returns
-returns c = let p = c .before .before .before .before .before .before .before .before .before .before .before .before .before .before .args in entry-put real32 (p .plan) (scaleBy32 (p .beta)) (real32 .mul (p .alpha .0)) (now (p .a)) (now (p .b)) (now (p .c)) (p .i) (p .j) _ _ _ _ _ _ _ (c .before .before .before .before .before .before .before .before .before .before .dot .ensures) (c .before .before .before .before .before .before .before .before .before .place .ensures) (c .before .before .before .before .before .before .before .get32 .ensures) (c .before .before .before .before .before .scale .ensures) (c .before .before .before .before .mul .ensures) (c .before .before .before .add .ensures) (c .before .before .put32 .ensures)
+returns c = let p = c .before .before .before .before .before .before .before .before .args in entry-put real32 (p .plan .target) (p .i) (p .j) (scaleBy32 (p .beta)) (real32 .mul (p .alpha .0)) _ _ (now (p .c)) _ (sum-whole real32 _ _ _ _ (zero-literal binary32) (c .before .before .before .before .add-run .ensures)) (c .before .before .settle .ensures)
 
 pub entry-spec : {M : Type 1} → statement M
-entry-spec =
-    tie.close
-    (tie.spec
-    dot-requires
-    place-requires
-    get32-requires
-    scale-requires
-    mul-requires
-    add-requires
-    put32-requires
-    same-length
-    returns)
+entry-spec = tie.close (tie.spec add-run-requires settle-requires same-length returns)

@@ -19,14 +19,14 @@ hemv-plan-requires c κs = hemv-vectors (c .before .before .before .before .befo
 judge-requires : tie.Need-judge-requires
 judge-requires c κs = tt
 
-run-requires : tie.Need-run-requires
-run-requires c κs = hemv-runs _ _ _ _ _ _ _ _ _ (c .before .before .before .before .before .check-hemv .ensures) (c .before .before .before .before .passed .ensures) (c .before .before .before .if1 .taken) _ (c .before .before .hemv-plan .ensures)
+run-left-column-requires : tie.Need-run-left-column-requires
+run-left-column-requires c κs = hemv-runs (c .before .before .before .before .before .before .before .before .before .args .uplo) _ _ _ _ _ _ _ _ (c .before .before .before .before .before .check-hemv .ensures) (c .before .before .before .before .passed .ensures) (c .before .before .before .if1 .taken) _ (c .before .before .hemv-plan .ensures)
 
 same-length : tie.Need-same-length
 same-length c = search needs
 
 returns : tie.Need-returns
-returns c = hemv-done real32 _ _ _ _ _ _ _ _ (c .before .before .before .before .before .before .before .before .check-hemv .ensures) (c .before .before .before .before .before .before .before .passed .ensures) (c .before .before .before .before .before .before .if1 .taken) _ _ _ _ (c .before .before .before .before .before .hemv-plan .ensures) (ap scaleBy32 (c .before .before .before .before .judge .ensures) ∙ scale32 _) refl (c .before .before .run .ensures)
+returns c = hemv-done real32 _ _ _ _ _ _ _ _ (c .before .before .before .before .before .before .before .before .check-hemv .ensures) (c .before .before .before .before .before .before .before .passed .ensures) (c .before .before .before .before .before .before .if1 .taken) _ _ _ _ (c .before .before .before .before .before .hemv-plan .ensures) (ap scaleBy32 (c .before .before .before .before .judge .ensures) ∙ scale32 _) refl (c .before .before .run-left-column .ensures)
 
 returns-2 : tie.Need-returns-2
 returns-2 c = hemv-refused real32 _ _ _ _ _ _ _ _ (c .before .before .check-hemv .ensures) (c .before .passed .ensures) (c .if1 .left)
@@ -39,7 +39,7 @@ hemv-spec =
     passed-requires
     hemv-plan-requires
     judge-requires
-    run-requires
+    run-left-column-requires
     same-length
     returns
     returns-2)

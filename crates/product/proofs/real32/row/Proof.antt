@@ -1,19 +1,18 @@
 use Prim.Native.Nat.{_≤_, _-_}
-use mathlib.Core.Path.{_∙_, _≡_, refl}
+use mathlib.Core.Path.{_≡_, refl, _∙_}
 use native.Mathlib.Omega.{arith}
 use lib.ListN.{length}
-use borrow.Author.Needs.{needs}
 use Rattle.number.specs.Kind.{real32}
 use Rattle.number.specs.Scaling.{scaleBy32}
-use Rattle.slab.proofs.LoopLaws.{row-next, row-last}
-use Rattle.slab.specs.Update.{row as rowOf}
-use Rattle.product_plan.specs.Plan.{planRow}
-use Rattle.product_plan.proofs.Laws.{ready-at}
+use Rattle.slab.specs.Update.{everywhere, row as rowOf}
+use Rattle.slab.proofs.LoopLaws.{row-last, put-next}
+use Rattle.product_plan.specs.Plan.{planChange}
+use Rattle.product_plan.proofs.Ready.{ready-kept}
 use Rattle.product.proofs.real32.row.Statement.{statement}
 use Rattle.product.proofs.real32.row.Tie as tie
 
 abbrev Inv-loop : tie.InvT-loop
-Inv-loop plan a b alpha beta c₀ i n j₀ c j = (j ≤ n) × (length c ≡ length c₀) × (c ≡ planRow real32 plan (scaleBy32 beta) (real32 .mul (alpha .0)) a b i j c₀)
+Inv-loop plan a b alpha beta c₀ i n j₀ c j = (j ≤ n) × (length c ≡ length c₀) × (c ≡ rowOf real32 (plan .target) everywhere (planChange real32 plan (scaleBy32 beta) (real32 .mul (alpha .0)) a b) i j c₀)
 
 abbrev μ-loop : tie.MeasureT-loop
 μ-loop plan a b alpha beta c₀ i n j₀ c j = n - j
@@ -25,8 +24,8 @@ loop-holds : tie.Need-loop-holds Inv-loop μ-loop
 unfolding rowOf
 loop-holds c = (omega arith, refl, refl)
 
-step-requires : tie.Need-step-requires Inv-loop μ-loop
-step-requires c κs = ready-at _ _ _ _ _ (c .before .before .loop .inv .1) _ (c .before .before .before .before .before .before .before .pre) _ _ (c .before .before .before .cols .ensures) (omega arith)
+entry-requires : tie.Need-entry-requires Inv-loop μ-loop
+entry-requires c κs = (ready-kept _ _ _ _ _ (c .before .before .loop .inv .1) (c .before .before .before .before .before .before .before .pre .0), c .before .before .before .before .before .before .before .pre .1, omega (arith, c .before .before .before .cols .ensures))
 
 add-j : tie.Need-add-j Inv-loop μ-loop
 add-j c = omega arith
@@ -35,7 +34,7 @@ loop-less : tie.Need-loop-less Inv-loop μ-loop
 loop-less c = omega arith
 
 loop-again : tie.Need-loop-again Inv-loop μ-loop
-loop-again c = (omega arith, c .before .before .step .kept .1 .1 .1 .1 .1 .0 ∙ c .before .before .before .before .before .loop .inv .1, row-next _ _ _ _ _ _ _ _ _ (c .before .before .before .before .before .loop .inv .2) (c .before .before .step .ensures))
+loop-again c = (omega arith, c .before .before .entry .kept .1 .1 .1 .1 .1 .0 ∙ c .before .before .before .before .before .loop .inv .1, put-next real32 _ _ _ _ _ _ _ _ refl (c .before .before .before .before .before .loop .inv .2) (c .before .before .entry .ensures))
 
 same-length : tie.Need-same-length Inv-loop μ-loop
 same-length c = c .before .loop .inv .1
@@ -51,7 +50,7 @@ row-spec =
     μ-loop
     cols-requires
     loop-holds
-    step-requires
+    entry-requires
     add-j
     loop-less
     loop-again

@@ -19,14 +19,14 @@ syrk-plan-requires c κs = tt
 judge-requires : tie.Need-judge-requires
 judge-requires c κs = tt
 
-run-requires : tie.Need-run-requires
-run-requires c κs = syrk-runs _ _ _ _ _ _ _ _ (c .before .before .before .before .before .check-syrk .ensures) (c .before .before .before .before .passed .ensures) (c .before .before .before .if1 .taken) _ (c .before .before .syrk-plan .ensures)
+run-triangle-requires : tie.Need-run-triangle-requires
+run-triangle-requires c κs = syrk-runs _ _ _ _ _ _ _ (c .before .before .before .before .before .check-syrk .ensures) (c .before .before .before .before .passed .ensures) (c .before .before .before .if1 .taken) _ (c .before .before .syrk-plan .ensures)
 
 same-length : tie.Need-same-length
 same-length c = search needs
 
 returns : tie.Need-returns
-returns c = syrk-done real64 _ _ _ _ _ _ _ _ (c .before .before .before .before .before .before .before .before .check-syrk .ensures) (c .before .before .before .before .before .before .before .passed .ensures) (c .before .before .before .before .before .before .if1 .taken) _ _ _ _ (c .before .before .before .before .before .syrk-plan .ensures) (ap scaleBy64 (c .before .before .before .before .judge .ensures) ∙ scale64 _) refl (c .before .before .run .ensures)
+returns c = syrk-done real64 _ _ _ _ _ _ _ _ (c .before .before .before .before .before .before .before .before .check-syrk .ensures) (c .before .before .before .before .before .before .before .passed .ensures) (c .before .before .before .before .before .before .if1 .taken) _ _ _ _ (c .before .before .before .before .before .syrk-plan .ensures) (ap scaleBy64 (c .before .before .before .before .judge .ensures) ∙ scale64 _) refl (c .before .before .run-triangle .ensures)
 
 returns-2 : tie.Need-returns-2
 returns-2 c = syrk-refused real64 _ _ _ _ _ _ _ _ (c .before .before .check-syrk .ensures) (c .before .passed .ensures) (c .if1 .left)
@@ -39,7 +39,7 @@ syrk-spec =
     passed-requires
     syrk-plan-requires
     judge-requires
-    run-requires
+    run-triangle-requires
     same-length
     returns
     returns-2)

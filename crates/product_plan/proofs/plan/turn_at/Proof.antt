@@ -1,48 +1,48 @@
-use Rattle.product_plan.specs.Plan.{turnOf}
 use borrow.Author.Needs.{needs}
 use Rattle.product_plan.proofs.plan.turn_at.Statement.{statement}
 use Rattle.product_plan.proofs.plan.turn_at.Tie as tie
 
-enum-known-m : tie.Need-enum-known-m
-enum-known-m c = search needs
+enum-told : tie.Need-enum-told
+enum-told c = search needs
 
-op-turn-requires : tie.Need-op-turn-requires
-op-turn-requires c κs = tt
+enum-told-2 : tie.Need-enum-told-2
+enum-told-2 c = search needs
 
-enum-known-m-2 : tie.Need-enum-known-m-2
-enum-known-m-2 c = search needs
+add-result : tie.Need-add-result
+add-result c = let h = rw (c .enum-told2 .given .1) at (c .before .before .pre) in search (needs, h)
 
-mirror-requires : tie.Need-mirror-requires
-mirror-requires c κs = tt
+enum-told-3 : tie.Need-enum-told-3
+enum-told-3 c = search needs
 
-enum-known-m-3 : tie.Need-enum-known-m-3
-enum-known-m-3 c = search needs
+enum-told-4 : tie.Need-enum-told-4
+enum-told-4 c = search needs
 
-mirror-requires-2 : tie.Need-mirror-requires-2
-mirror-requires-2 c κs = tt
+add-result-2 : tie.Need-add-result-2
+add-result-2 c = let h = rw (c .enum-told4 .given .1) at (c .before .before .pre) in search (needs, h)
 
 returns : tie.Need-returns
-unfolding turnOf
-returns c = rw (c .before .before .m .given .1) (c .op-turn .ensures)
+returns c = search needs
 
 returns-2 : tie.Need-returns-2
-unfolding turnOf
-returns-2 c = rw (c .before .before .m2 .given .1) (c .mirror .ensures)
+returns-2 c = rw (c .enum-told2 .given .1)
 
 returns-3 : tie.Need-returns-3
-unfolding turnOf
-returns-3 c = rw (c .before .before .m3 .given .1) (c .mirror2 .ensures)
+returns-3 c = search needs
+
+returns-4 : tie.Need-returns-4
+returns-4 c = rw (c .enum-told4 .given .1)
 
 pub turn-at-spec : {M : Type 1} → statement M
 turn-at-spec =
     tie.close
     (tie.spec
-    enum-known-m
-    op-turn-requires
-    enum-known-m-2
-    mirror-requires
-    enum-known-m-3
-    mirror-requires-2
+    enum-told
+    enum-told-2
+    add-result
+    enum-told-3
+    enum-told-4
+    add-result-2
     returns
     returns-2
-    returns-3)
+    returns-3
+    returns-4)

@@ -9,7 +9,7 @@ column-requires-2 : tie.Need-column-requires-2
 column-requires-2 c κs = search needs
 
 gemm-plan-requires : tie.Need-gemm-plan-requires
-gemm-plan-requires c κs = tt
+gemm-plan-requires c κs = search needs
 
 returns : tie.Need-returns
 returns c = cc
