@@ -1,7 +1,10 @@
 -- The laws of the triangular routines, over any number kind; each function's proof cites them.
-pub mod Places
-pub mod Parts
-pub mod Solves
+pub mod WalkLaws
 pub mod InOrder
+pub mod Systems
+pub mod Judged
+pub mod Solves
+pub mod SolveKernels
+pub mod LineSums
 pub mod Multiplies
-pub mod Kernels
+pub mod ProductKernels

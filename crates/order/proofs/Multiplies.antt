@@ -3,8 +3,7 @@ use Prim.Native.Nat.{ℕ, zero, suc, _+_, _*_, _/_, _%_, _≤_, _<_}
 use mathlib.Core.Bool.{Bool, true, false, not, cond}
 use mathlib.Core.List.{List}
 use mathlib.Core.Path.{_≡_, refl, ap, sym, subst, _∙_}
-use native.Mathlib.Nat.{mul-comm, div-add-mod', mul-le-mul-right}
-use native.Mathlib.Numerals.{add-one}
+use native.Mathlib.Nat.{mul-comm, mod-lt, div-add-mod', mul-le-mul-right}
 use native.Mathlib.Omega.{arith}
 use borrow.Author.Tests.{lt-ltb, le-ltb, ltb-true, leb-true}
 use lib.Arith.{digits-div, digits-mod, digits-lt}
@@ -28,14 +27,21 @@ use Rattle.blas.specs.Matrix.{Matrix}
 use Rattle.blas.specs.Triangular.{opUpper, triangularDot}
 use Rattle.blas.specs.Substitution.{unknownAt, unknown, lastFirst, inOrder, turnOf, lineOf}
 use Rattle.blas.proofs.OverLaws.{over-cong}
-use Rattle.blas.proofs.SubstitutionLaws.{in-order-lt, in-order-twice, turn-lt}
-use Rattle.order.specs.Reach.{multipliedAfter}
-use Rattle.order.specs.Ready.{linesOf}
-use Rattle.order.specs.Multiply.{goesInto, weighs, lineDot, multiplyOne, multiplied}
+use Rattle.blas.proofs.SubstitutionLaws.{in-order-lt, in-order-twice, turn-lt, factor-pos, quotient-lt}
+use Rattle.order.specs.declared.System.{System}
+use Rattle.order.specs.Walk.{walk}
+use Rattle.order.specs.Triangles.{linesView, systemOf}
+use Rattle.order.specs.Multiply.{turn, line, lineSum, multiplyOne, multiplyColumn, multiplyAll}
+use Rattle.order.proofs.WalkLaws.{walk-cong, walk-nested}
 use Rattle.order.proofs.InOrder.{Swaps, one-more}
-use Rattle.order.proofs.Places.{line-lt}
+use Rattle.order.proofs.Systems.{lines-index}
+use Rattle.order.proofs.LineSums.{goesInto, weighs, lineDot, line-sum-is}
 
 -- ---- an element of a line, as a row and a column
+
+abbrev linesOf : Side → View → ℕ
+linesOf Left v = v .cols
+linesOf Right v = v .rows
 
 abbrev rowAt : Side → ℕ → ℕ → ℕ
 rowAt Left q l = q
@@ -53,12 +59,16 @@ at-index : (side : Side) (v : View) (q l : ℕ) → unknownAt side v q l ≡ ind
 at-index Left v q l = refl
 at-index Right v q l = refl
 
-at-dot : (K : Kind) (side : Side) (uplo : UpLo) (t : Trans) (diag : Diag) (a : Matrix K) (v : View) (n : ℕ) (s : List (K .Cell)) (q l : ℕ)
-    → lineDot K side uplo t diag a v n s q l ≡ triangularDot K side uplo t diag n a (elem K s v) (rowAt side q l) (colAt side q l)
-at-dot K Left uplo t diag a v n s q l = refl
-at-dot K Right uplo t diag a v n s q l = refl
+at-dot : (K : Kind) (side : Side) (uplo : UpLo) (t : Trans) (diag : Diag) (a : Matrix K) (v : View) (s : List (K .Cell)) (q l : ℕ)
+    → lineDot K side uplo t diag a v s q l ≡ triangularDot K side uplo t diag (orderOf side v) a (elem K s v) (rowAt side q l) (colAt side q l)
+at-dot K Left uplo t diag a v s q l = refl
+at-dot K Right uplo t diag a v s q l = refl
 
 -- ---- how many elements come before (r, c)
+
+line-lt : (side : Side) (v : View) (n : ℕ) → n < v .rows * v .cols → lineOf side v n < linesOf side v
+line-lt Left v n h = quotient-lt n (v .rows) (v .cols) h
+line-lt Right v n h = mod-lt n (factor-pos n (v .rows) (v .cols) h)
 
 abbrev rank : Side → Bool → View → ℕ → ℕ → ℕ
 rank Left last v r c = c * v .rows + inOrder last (v .rows) r
@@ -117,8 +127,18 @@ goes-later Right uplo t m k p h g e = go (opUpper uplo t) e
 
 -- ---- the slab after n elements
 
-module _ (K : Kind) (L : SlabLaws K) (W : Swaps K) (side : Side) (uplo : UpLo) (t : Trans) (diag : Diag) (start : K .Elem → K .Elem) (a : Matrix K)
-    (v : View) (s₀ : List (K .Cell)) (inside : Inside v (K .count s₀)) (distinct : Distinct v) where
+lines-rows : (side : Side) (v : View) → (linesView side v) .rows ≡ orderOf side v
+lines-rows Left v = refl
+lines-rows Right v = refl
+
+module _ (K : Kind) (L : SlabLaws K) (W : Swaps K) (side : Side) (uplo : UpLo) (t : Trans) (diag : Diag) (va : View) (sa : List (K .Cell))
+    (start : K .Elem → K .Elem) (v : View) (s₀ : List (K .Cell)) (inside : Inside v (K .count s₀)) (distinct : Distinct v) where
+  abbrev system : System
+  system = systemOf side uplo t diag va v
+
+  abbrev a : Matrix K
+  a = elem K sa va
+
   abbrev last : Bool
   last = not (lastFirst side uplo t)
 
@@ -155,8 +175,11 @@ module _ (K : Kind) (L : SlabLaws K) (W : Swaps K) (side : Side) (uplo : UpLo) (
     k-in : turnOf side v n < orderOf side v
     k-in = turn-lt side v n h
 
+    q-in : q < orderOf side v
+    q-in = in-order-lt last (orderOf side v) (turnOf side v n) k-in
+
     shown : (r < v .rows) × (c < v .cols)
-    shown = at-in side v q (lineOf side v n) (in-order-lt last (orderOf side v) (turnOf side v n) k-in) (line-lt side v n h)
+    shown = at-in side v q (lineOf side v n) q-in (line-lt side v n h)
 
     like : (r' c' : ℕ) → r' < v .rows → c' < v .cols → (r' ≡ r → c' ≡ c → ⊥) → done (suc n) r' c' ≡ done n r' c'
     like r' c' p g ne = go (rank side last v r' c') (λ e. let w = rank-only last v n h side r' c' p g e in ne (w .0) (w .1))
@@ -180,19 +203,20 @@ module _ (K : Kind) (L : SlabLaws K) (W : Swaps K) (side : Side) (uplo : UpLo) (
         ∙ ap (λ (b : Bool). cond b (product (rowAt side p (lineOf side v n)) (colAt side p (lineOf side v n))) (elem K s₀ v (rowAt side p (lineOf side v n)) (colAt side p (lineOf side v n)))) (le-ltb _ n later)
         ∙ sym (ap (K .at s₀) (at-index side v p (lineOf side v n)))
 
-    same-dot : lineDot K side uplo t diag a v (orderOf side v) (after n) q (lineOf side v n) ≡ triangularDot K side uplo t diag (orderOf side v) a (elem K s₀ v) r c
+    same-dot : lineDot K side uplo t diag a v (after n) q (lineOf side v n) ≡ triangularDot K side uplo t diag (orderOf side v) a (elem K s₀ v) r c
     same-dot =
         over-cong K (λ p. goesInto side uplo t q p) (λ p. weighs K side diag t a q p (unknown K side (after n) v p (lineOf side v n)))
         (λ p. weighs K side diag t a q p (unknown K side s₀ v p (lineOf side v n)))
         (orderOf side v)
         (λ p g e. ap (weighs K side diag t a q p) (unwritten p g e))
-        ∙ at-dot K side uplo t diag a v (orderOf side v) s₀ q (lineOf side v n)
+        ∙ at-dot K side uplo t diag a v s₀ q (lineOf side v n)
 
-    next : (s : List (K .Cell)) → s ≡ after n → multiplyOne K side uplo t diag start a v (turnOf side v n) (lineOf side v n) s ≡ after (suc n)
-    unfolding multiplyOne multipliedAfter
+    next : (s : List (K .Cell)) → s ≡ after n → multiplyOne K system sa start (turnOf side v n) (lineOf side v n) s ≡ after (suc n)
+    unfolding multiplyOne
     next s e =
-        (λ i. K .put (e i) (at-index side v q (lineOf side v n) i) (start (lineDot K side uplo t diag a v (orderOf side v) (e i) q (lineOf side v n))))
-        ∙ ap (λ (x : K .Elem). K .put (after n) (index v r c) (start x)) same-dot
+        (λ i. K .put (e i) (index (linesView side v) (inOrder last (lines-rows side v i) (turnOf side v n)) (lineOf side v n)) (start (lineSum K system sa (e i) (inOrder last (lines-rows side v i) (turnOf side v n)) (lineOf side v n))))
+        ∙ (λ i. K .put (after n) ((lines-index side v q (lineOf side v n) ∙ at-index side v q (lineOf side v n)) i)
+        (start ((line-sum-is K uplo t diag va v sa (after n) q (lineOf side v n) side q-in ∙ same-dot) i)))
         ∙ sym (one-more K W v (done n) (done (suc n)) product r c (shown .0) (shown .1) distinct
         (lt-ltb _ (suc n) (is-last (rank-at last v n h side))) (le-ltb _ n (is-not (rank-at last v n h side))) like s₀)
       where
@@ -202,40 +226,45 @@ module _ (K : Kind) (L : SlabLaws K) (W : Swaps K) (side : Side) (uplo : UpLo) (
         is-not : {x : ℕ} → x ≡ n → n ≤ x
         is-not e = omega arith
 
-  so-far : (n : ℕ) → n ≤ v .rows * v .cols → multiplied K side uplo t diag start a v n s₀ ≡ after n
-  unfolding multiplied
-  so-far zero h = sym none-done
-  so-far (suc n) h = next n h (multiplied K side uplo t diag start a v n s₀) (so-far n (omega arith))
+  -- the n-th step
+  abbrev nthStep : ℕ → List (K .Cell) → List (K .Cell)
+  nthStep n = multiplyOne K system sa start (turnOf side v n) (lineOf side v n)
 
-  pub multiplied-all : multiplied K side uplo t diag start a v (v .rows * v .cols) s₀ ≡ update K v everywhere (λ r c x. product r c) s₀
+  so-far : (n : ℕ) → n ≤ v .rows * v .cols → walk n nthStep s₀ ≡ after n
+  unfolding walk
+  so-far zero h = sym none-done
+  so-far (suc n) h = next n h (walk n nthStep s₀) (so-far n (omega arith))
+
+  numbered : (side' : Side) (i j : ℕ) → i < v .rows → (turn side' i j ≡ turnOf side' v (j * v .rows + i)) × (line side' i j ≡ lineOf side' v (j * v .rows + i))
+  numbered Left i j h = (sym (digits-mod j h), sym (digits-div j h))
+  numbered Right i j h = (sym (digits-div j h), sym (digits-mod j h))
+
+  pub multiplied-all : multiplyAll K system sa start s₀ ≡ update K v everywhere (λ r c x. product r c) s₀
   multiplied-all =
-      so-far (v .rows * v .cols) (omega arith)
+      walk-cong (λ j. multiplyColumn K system sa start j (v .rows)) (λ j. walk (v .rows) (λ i. nthStep (j * v .rows + i))) (v .cols)
+      (λ j g s. walk-cong (λ i. multiplyOne K system sa start (turn side i j) (line side i j)) (λ i. nthStep (j * v .rows + i)) (v .rows)
+      (λ i h s'. let e = numbered side i j h in λ d. multiplyOne K system sa start (e .0 d) (e .1 d) s')
+      s)
+      s₀
+      ∙ walk-nested nthStep (v .rows) (v .cols) s₀
+      ∙ ap (λ (n : ℕ). walk n nthStep s₀) (mul-comm (v .cols) (v .rows))
+      ∙ so-far (v .rows * v .cols) (omega arith)
       ∙ update-mask K v (done (v .rows * v .cols)) (λ r c x. product r c) everywhere (λ r c p g. lt-ltb _ (v .rows * v .cols) (rank-below side last v r c p g)) s₀
 
--- ---- as a loop meets it
+-- ---- as the engine meets it
 
-module _ (K : Kind) (side : Side) (uplo : UpLo) (t : Trans) (diag : Diag) (start : K .Elem → K .Elem) (a : Matrix K) (v : View) where
+module _ (K : Kind) (y : System) (a : List (K .Cell)) (start : K .Elem → K .Elem) where
   -- one element, by parts
-  pub multiply-one-is : (k l q m : ℕ) (x y : K .Elem) (s s' : List (K .Cell)) → q ≡ multipliedAfter side uplo t v k → m ≡ orderOf side v
-      → x ≡ lineDot K side uplo t diag a v m s q l → y ≡ start x → s' ≡ K .put s (unknownAt side v q l) y
-      → s' ≡ multiplyOne K side uplo t diag start a v k l s
+  pub multiply-one-is : (k l q m at : ℕ) (last : Bool) (x z : K .Elem) (s s' : List (K .Cell)) → last ≡ not (y .last) → m ≡ y .b .rows → q ≡ inOrder last m k
+      → at ≡ index (y .b) q l → x ≡ lineSum K y a s q l → z ≡ start x → s' ≡ K .put s at z → s' ≡ multiplyOne K y a start k l s
   unfolding multiplyOne
-  multiply-one-is k l q m x y s s' here counted summed weighed e =
+  multiply-one-is k l q m at last x z s s' turned counted here placed summed weighed e =
+      let found : q ≡ inOrder (not (y .last)) (y .b .rows) k = here ∙ (λ i. inOrder (turned i) (counted i) k) in
       e
-      ∙ ap (K .put s (unknownAt side v q l)) (weighed ∙ ap start summed)
-      ∙ (λ i. K .put s (unknownAt side v (here i) l) (start (lineDot K side uplo t diag a v (counted i) s (here i) l)))
+      ∙ (λ i. K .put s (placed i) ((weighed ∙ ap start summed) i))
+      ∙ (λ i. K .put s (index (y .b) (found i) l) (start (lineSum K y a s (found i) l)))
 
-  pub multiplied-start : (s₀ : List (K .Cell)) → s₀ ≡ multiplied K side uplo t diag start a v 0 s₀
-  unfolding multiplied
-  multiplied-start s₀ = refl
-
-  pub multiplied-next : (s₀ : List (K .Cell)) (n k l : ℕ) (s s' : List (K .Cell)) → s ≡ multiplied K side uplo t diag start a v n s₀ → k ≡ turnOf side v n
-      → l ≡ lineOf side v n → s' ≡ multiplyOne K side uplo t diag start a v k l s → s' ≡ multiplied K side uplo t diag start a v (n + 1) s₀
-  unfolding multiplied
-  multiplied-next s₀ n k l s s' h turned lined e = rw add-one (e ∙ (λ i. multiplyOne K side uplo t diag start a v (turned i) (lined i) (h i)))
-
-  pub multiplied-end : (s₀ : List (K .Cell)) (n total : ℕ) (s : List (K .Cell)) → total ≡ v .rows * v .cols → n ≤ total → total ≤ n
-      → s ≡ multiplied K side uplo t diag start a v n s₀ → s ≡ multiplied K side uplo t diag start a v (v .rows * v .cols) s₀
-  multiplied-end s₀ n total s counted p q h =
-      let e : n ≡ v .rows * v .cols = omega arith in
-      subst (λ (x : ℕ). s ≡ multiplied K side uplo t diag start a v x s₀) e h
+  -- element (i, j), of turn k and line l
+  pub one-at : (k l i j : ℕ) (s s' : List (K .Cell)) → k ≡ turn (y .side) i j → l ≡ line (y .side) i j → s' ≡ multiplyOne K y a start k l s
+      → s' ≡ multiplyOne K y a start (turn (y .side) i j) (line (y .side) i j) s
+  one-at k l i j s s' turned lined e = e ∙ (λ d. multiplyOne K y a start (turned d) (lined d) s)

@@ -1,31 +1,42 @@
--- How far a solve goes, and what it then gives.
-use Prim.Native.Nat.{ℕ, _+_, _*_, _≤_, _<_}
-use mathlib.Core.Bool.{Bool, true, false, not, cond, _&&_}
+-- A solve over a system is the definition's substitution: one unknown, how far it goes, and what it then gives.
+use Prim.Native.Nat.{ℕ, zero, suc, _+_, _*_, _-_, _≤_, _<_}
+use mathlib.Core.Bool.{Bool, true, false, cond, _&&_}
 use mathlib.Core.List.{List}
 use mathlib.Core.Path.{_≡_, refl, ap, sym, subst, _∙_}
 use native.Mathlib.Decide.{ℕ-discrete}
+use native.Mathlib.Nat.{mul-comm}
 use native.Mathlib.Omega.{arith}
 use borrow.Author.Tests.{lt-ltb, le-ltb, ltb-true}
+use lib.Arith.{digits-lt, digits-div, digits-mod}
 use lib.Dec.{ltb}
 use Rattle.number.specs.Kind.{Kind}
 use Rattle.view.specs.declared.View.{View}
 use Rattle.view.specs.declared.Answer.{Answer}
 use Rattle.view.specs.declared.Answer.the-variants.{Done, Singular}
 use Rattle.view.specs.declared.Side.{Side}
+use Rattle.view.specs.declared.Side.the-variants.{Left, Right}
 use Rattle.view.specs.declared.Trans.{Trans}
 use Rattle.view.specs.declared.UpLo.{UpLo}
 use Rattle.view.specs.declared.Diag.{Diag}
+use Rattle.view.specs.declared.Diag.the-variants.{NonUnit, Unit}
 use Rattle.view.specs.Any.{any}
 use Rattle.view.specs.AnyLaws.{found, finds, and-both, and-left, and-right, and-no-left, is-false, clash}
 use Rattle.view.specs.Checks.{orderOf}
 use Rattle.view.specs.Judge.{answerNumber}
-use Rattle.blas.specs.Matrix.{Matrix}
+use Rattle.view.specs.Place.{index}
+use Rattle.slab.specs.Elem.{elem}
+use Rattle.blas.specs.Matrix.{Matrix, op}
 use Rattle.blas.specs.Outcome.{Outcome, Gives}
-use Rattle.blas.specs.Substitution.{unknownAt, unknown, brings, lastFirst, inOrder, leastSolved, elementsBefore, firstAt, less, byPivot, zeroPivot, solveOne, solved, singular, substituted}
-use Rattle.blas.proofs.SubstitutionLaws.{in-order-lt, in-order-twice, least-solved-le, first-is, first-none, first-lt, first-true, first-element-in}
-use Rattle.view.specs.Refusals.{limit}
-use Rattle.order.proofs.Places.{within}
-use Rattle.order.specs.Reach.{solvedAfter, leastAfter, multipliedAfter, reduced, zeroAfter, firstZero, stops, reached, verdict}
+use Rattle.blas.specs.Substitution.{unknownAt, unknown, brings, lastFirst, inOrder, leastSolved, turnOf, lineOf, elementsBefore, firstAt, less, byPivot, zeroPivot, solved, singular, substituted}
+use Rattle.blas.specs.Substitution as substitution
+use Rattle.blas.proofs.SubstitutionLaws.{in-order-lt, in-order-twice, first-is, first-none, first-lt, first-true, factor-pos}
+use Rattle.order.specs.declared.System.{System}
+use Rattle.order.specs.Walk.{walk}
+use Rattle.order.specs.Triangles.{linesView, systemOf, coefficient, weigh}
+use Rattle.order.specs.Multiply.{turn, line}
+use Rattle.order.specs.Solve.{byDiag, zeroDiag, solveOne, solveLine, solveAcross, zeroAfter, firstZero, stops, Solved, SolvedLeft, SolvedRight}
+use Rattle.order.proofs.WalkLaws.{walk-start, walk-end, walk-add, walk-cong, walk-nested}
+use Rattle.order.proofs.Systems.{opSided, coefficient-is, diagonal-is, lines-index, lines-elem}
 
 -- ---- the first number at which a test passes, as a loop that counts by one meets it
 
@@ -39,16 +50,16 @@ clear-start f = record { none = λ i h. absurd (nothing i h) }
     nothing : (i : ℕ) → i < 0 → ⊥
     nothing i h = omega arith
 
-pub clear-next : (f : ℕ → Bool) (n : ℕ) → Clear f n → f n ≡ false → Clear f (n + 1)
-clear-next f n cleared h = record { none = λ i g. go i (ℕ-discrete i n) g }
+pub clear-next : (f : ℕ → Bool) (n : ℕ) (b : Bool) → Clear f n → b ≡ f n → b ≡ false → Clear f (n + 1)
+clear-next f n b cleared told h = record { none = λ i g. go i (ℕ-discrete i n) g }
   where
     go : (i : ℕ) → Dec (i ≡ n) → i < n + 1 → f i ≡ false
-    go i (yes e) g = ap f e ∙ h
+    go i (yes e) g = ap f e ∙ sym told ∙ h
     go i (no q) g = cleared .none i (omega arith)
 
 -- a loop that stops at k
-pub first-found : (f : ℕ → Bool) (n m k : ℕ) → m ≡ n → k < m → Clear f k → f k ≡ true → k ≡ firstAt n f
-first-found f n m k e h cleared t = sym (first-is n f k (subst (λ (x : ℕ). k < x) e h) t (cleared .none))
+pub first-found : (f : ℕ → Bool) (n m k : ℕ) (b : Bool) → m ≡ n → k < m → Clear f k → b ≡ f k → b ≡ true → k ≡ firstAt n f
+first-found f n m k b e h cleared told t = sym (first-is n f k (subst (λ (x : ℕ). k < x) e h) (sym told ∙ t) (cleared .none))
 
 -- and one that does not stop
 pub first-nowhere : (f : ℕ → Bool) (n m k : ℕ) → m ≡ n → k ≤ m → m ≤ k → Clear f k → k ≡ firstAt n f
@@ -56,173 +67,380 @@ first-nowhere f n m k e h g cleared =
     let all : k ≡ n = omega arith in
     all ∙ sym (first-none n f (subst (λ (x : ℕ). (i : ℕ) → i < x → f i ≡ false) all (cleared .none)))
 
--- ---- one element, by parts
+-- ---- one unknown, by parts
 
-module _ (K : Kind) (side : Side) (uplo : UpLo) (t : Trans) (diag : Diag) (a : Matrix K) (v : View) where
-  pub zero-told : (k q : ℕ) (b c : Bool) → q ≡ solvedAfter side uplo t v k → b ≡ zeroPivot K diag a q → b ≡ c → zeroAfter K side uplo t diag a v k ≡ c
-  unfolding zeroAfter
-  zero-told k q b c found told h = ap (zeroPivot K diag a) (sym found) ∙ sym told ∙ h
-
-  pub solve-one-is : (start : K .Elem → K .Elem) (k l q from : ℕ) (w x y z : K .Elem) (s s' : List (K .Cell)) → q ≡ solvedAfter side uplo t v k
-      → from ≡ leastAfter side uplo t v k → w ≡ unknown K side s v q l → x ≡ start w
-      → y ≡ reduced K side t a v s q l from k x → z ≡ byPivot K diag t a q y
-      → s' ≡ K .put s (unknownAt side v q l) z → s' ≡ solveOne K side uplo t diag start a v k l s
-  unfolding solveOne solvedAfter leastAfter reduced
-  solve-one-is start k l q from w x y z s s' here there taken started rest divided e =
+module _ (K : Kind) (y : System) (a : List (K .Cell)) where
+  pub solve-one-is : (start : K .Elem → K .Elem) (k l m q from n : ℕ) (w x r z : K .Elem) (s s' : List (K .Cell)) → m ≡ y .b .rows → q ≡ inOrder (y .last) m k
+      → from ≡ leastSolved (y .last) m k → w ≡ elem K s (y .b) q l → x ≡ start w
+      → r ≡ less K x (λ p. weigh K (y .side) (coefficient K y a q p) (elem K s (y .b) p l)) from k → z ≡ byDiag K (y .diag) (coefficient K y a q q) r
+      → n ≡ index (y .b) q l → s' ≡ K .put s n z → s' ≡ solveOne K y start a k l s
+  unfolding solveOne
+  solve-one-is start k l m q from n w x r z s s' counted here there taken started rest divided placed e =
       e
-      ∙ ap (λ (n : K .Elem). K .put s (unknownAt side v q l) n)
-      (divided ∙ ap (byPivot K diag t a q) (rest ∙ ap (λ (n : K .Elem). less K n (λ p. brings K side t a q p (unknown K side s v p l)) from k) (started ∙ ap start taken)))
-      ∙ (λ i. K .put s (unknownAt side v (here i) l) (byPivot K diag t a (here i) (less K (start (unknown K side s v (here i) l)) (λ p. brings K side t a (here i) p (unknown K side s v p l)) (there i) k)))
+      ∙ (λ i. K .put s (placed i) ((divided ∙ ap (byDiag K (y .diag) (coefficient K y a q q)) (rest ∙ ap (λ (v : K .Elem). less K v (λ p. weigh K (y .side) (coefficient K y a q p) (elem K s (y .b) p l)) from k) (started ∙ ap start taken))) i))
+      ∙ (λ i. value (here i) (there i))
+      ∙ ap (λ (c : ℕ). value (inOrder (y .last) c k) (leastSolved (y .last) c k)) counted
+    where
+      value : ℕ → ℕ → List (K .Cell)
+      value u f =
+          K .put s (index (y .b) u l)
+          (byDiag K (y .diag) (coefficient K y a u u) (less K (start (elem K s (y .b) u l)) (λ p. weigh K (y .side) (coefficient K y a u p) (elem K s (y .b) p l)) f k))
 
--- ---- what a solve gives
+  pub meets-is : (k m q : ℕ) (b : Bool) → m ≡ y .b .rows → q ≡ inOrder (y .last) m k → b ≡ zeroDiag K (y .diag) (elem K a (y .a) q q) → b ≡ zeroAfter K y a k
+  unfolding zeroAfter
+  meets-is k m q b counted here told =
+      told ∙ ap (λ (u : ℕ). zeroDiag K (y .diag) (elem K a (y .a) u u)) (here ∙ ap (λ (c : ℕ). inOrder (y .last) c k) counted)
 
-module _ (K : Kind) (x y : Outcome K) (r : Answer) (s : List (K .Cell)) where
-  gives-first : (b : Bool) → b ≡ true → Gives K x r s → Gives K (cond b x y) r s
-  gives-first true e g = g
-  gives-first false e g = absurd (clash e refl)
+-- ---- one unknown is the definition's
 
-  gives-second : (b : Bool) → b ≡ false → Gives K y r s → Gives K (cond b x y) r s
-  gives-second true e g = absurd (clash refl e)
-  gives-second false e g = g
+order-is : (side : Side) (v : View) → (linesView side v) .rows ≡ orderOf side v
+order-is Left v = refl
+order-is Right v = refl
 
-module _ (K : Kind) (side : Side) (uplo : UpLo) (t : Trans) (diag : Diag) (start : K .Elem → K .Elem) (a : Matrix K) (v : View) (s₀ : List (K .Cell))
-    (k n : ℕ) (r : Answer) (s : List (K .Cell)) (first : k ≡ firstZero K side uplo t diag a v) (reaches : n ≡ reached side v k)
-    (so-far : s ≡ solved K side uplo t diag start a v n s₀) (answered : r ≡ verdict side v k) where
-  abbrev m : ℕ
-  m = orderOf side v
+by-diag-is : (K : Kind) (diag : Diag) (t : Trans) (a : Matrix K) (q : ℕ) (c x z : K .Elem) → c ≡ op K t a q q → x ≡ z → byDiag K diag c x ≡ byPivot K diag t a q z
+by-diag-is K NonUnit t a q c x z e h = λ i. K .div (h i) (e i)
+by-diag-is K Unit t a q c x z e h = h
 
-  abbrev total : ℕ
-  total = v .rows * v .cols
+zero-diag-is : (K : Kind) (diag : Diag) (a : Matrix K) (q : ℕ) (c : K .Elem) → c ≡ a q q → zeroDiag K diag c ≡ zeroPivot K diag a q
+zero-diag-is K NonUnit a q c e = ap (K .isZero) e
+zero-diag-is K Unit a q c e = refl
+
+same-pivot : (K : Kind) (side : Side) (t : Trans) (a : Matrix K) (q : ℕ) → opSided K side t a q q ≡ op K t a q q
+same-pivot K Left t a q = refl
+same-pivot K Right t a q = refl
+
+weigh-is : (K : Kind) (side : Side) (t : Trans) (a : Matrix K) (q p : ℕ) (c x z : K .Elem) → c ≡ opSided K side t a q p → x ≡ z → weigh K side c x ≡ brings K side t a q p z
+weigh-is K Left t a q p c x z e h = λ i. K .mul (e i) (h i)
+weigh-is K Right t a q p c x z e h = λ i. K .mul (h i) (e i)
+
+module _ (K : Kind) (side : Side) (uplo : UpLo) (t : Trans) (diag : Diag) (start : K .Elem → K .Elem) (va vb : View) (sa : List (K .Cell)) where
+  abbrev y : System
+  y = systemOf side uplo t diag va vb
+
+  abbrev a : Matrix K
+  a = elem K sa va
 
   abbrev last : Bool
   last = lastFirst side uplo t
 
-  -- some pivot is zero, and the target is not empty
-  module _ (e : singular K side uplo t diag start a v ≡ true) where
-    some : ltb 0 total ≡ true
-    some = and-left (ltb 0 total) (any m (λ q. zeroPivot K diag a q)) e
+  abbrev m : ℕ
+  m = orderOf side vb
 
-    k-lt : k < m
-    unfolding solvedAfter zeroAfter
-    k-lt =
-        let w = finds m (λ q. zeroPivot K diag a q) (and-right (ltb 0 total) (any m (λ q. zeroPivot K diag a q)) e) in
-        subst (λ (x : ℕ). x < m) (sym first)
-        (first-lt m (zeroAfter K side uplo t diag a v) (inOrder last m (w .0)) (in-order-lt last m (w .0) (w .1))
-        (ap (zeroPivot K diag a) (in-order-twice last m (w .0) (w .1)) ∙ w .2))
+  one-is : (k l : ℕ) (s : List (K .Cell)) → solveOne K y start sa k l s ≡ substitution.solveOne K side uplo t diag start a vb k l s
+  unfolding solveOne substitution.solveOne
+  one-is k l s = ap from-order (order-is side vb) ∙ at-order (inOrder last m k) (leastSolved last m k)
+    where
+      from-order : ℕ → List (K .Cell)
+      from-order c =
+          K .put s (index (linesView side vb) (inOrder last c k) l)
+          (byDiag K diag (coefficient K y sa (inOrder last c k) (inOrder last c k))
+          (less K (start (elem K s (linesView side vb) (inOrder last c k) l))
+          (λ p. weigh K side (coefficient K y sa (inOrder last c k) p) (elem K s (linesView side vb) p l))
+          (leastSolved last c k) k))
 
-    stopped : stops side v k ≡ true
+      at-order : (q from : ℕ)
+          → K .put s (index (linesView side vb) q l)
+          (byDiag K diag (coefficient K y sa q q) (less K (start (elem K s (linesView side vb) q l)) (λ p. weigh K side (coefficient K y sa q p) (elem K s (linesView side vb) p l)) from k))
+          ≡ K .put s (unknownAt side vb q l) (byPivot K diag t a q (less K (start (unknown K side s vb q l)) (λ p. brings K side t a q p (unknown K side s vb p l)) from k))
+      at-order q from =
+          λ i. K .put s (lines-index side vb q l i)
+          (by-diag-is K diag t a q _ _ _ (coefficient-is K uplo t diag va vb sa side q q ∙ same-pivot K side t a q)
+          (λ j. less K (start (lines-elem K s side vb q l j))
+          (λ p. weigh-is K side t a q p _ _ _ (coefficient-is K uplo t diag va vb sa side q p) (lines-elem K s side vb p l) j) from k)
+          i)
+
+  zero-is : (k : ℕ) → zeroAfter K y sa k ≡ zeroPivot K diag a (inOrder last m k)
+  unfolding zeroAfter
+  zero-is k =
+      zero-diag-is K diag a (inOrder last ((linesView side vb) .rows) k) _ (diagonal-is K uplo t diag va vb sa side (inOrder last ((linesView side vb) .rows) k))
+      ∙ ap (λ (c : ℕ). zeroPivot K diag a (inOrder last c k)) (order-is side vb)
+
+  first-is-first : firstZero K y sa ≡ firstAt m (λ k. zeroPivot K diag a (inOrder last m k))
+  first-is-first = λ i. firstAt (order-is side vb i) (λ k. zero-is k i)
+
+  -- ---- elements one after another
+
+  -- the n-th element in solving order
+  abbrev nth : ℕ → List (K .Cell) → List (K .Cell)
+  nth n = substitution.solveOne K side uplo t diag start a vb (turnOf side vb n) (lineOf side vb n)
+
+  solved-walk : (n : ℕ) (s : List (K .Cell)) → walk n nth s ≡ solved K side uplo t diag start a vb n s
+  unfolding walk solved
+  solved-walk zero s = refl
+  solved-walk (suc n) s = ap (nth n) (solved-walk n s)
+
+-- element i of column o of B is number o * rows + i
+turn-digits : (side : Side) (v : View) (o i : ℕ) → i < v .rows → turnOf side v (o * v .rows + i) ≡ turn side i o
+turn-digits Left v o i h = digits-mod o h
+turn-digits Right v o i h = digits-div o h
+
+line-digits : (side : Side) (v : View) (o i : ℕ) → i < v .rows → lineOf side v (o * v .rows + i) ≡ line side i o
+line-digits Left v o i h = digits-div o h
+line-digits Right v o i h = digits-mod o h
+
+module _ (K : Kind) (side : Side) (uplo : UpLo) (t : Trans) (diag : Diag) (start : K .Elem → K .Elem) (va vb : View) (sa s₀ : List (K .Cell)) where
+  abbrev sys : System
+  sys = systemOf side uplo t diag va vb
+
+  abbrev mat : Matrix K
+  mat = elem K sa va
+
+  digit-is : (o i : ℕ) → i < vb .rows → (s : List (K .Cell))
+      → solveOne K sys start sa (turn side i o) (line side i o) s ≡ nth K side uplo t diag start va vb sa (o * vb .rows + i) s
+  digit-is o i h s =
+      one-is K side uplo t diag start va vb sa (turn side i o) (line side i o) s
+      ∙ (λ j. substitution.solveOne K side uplo t diag start mat vb (sym (turn-digits side vb o i h) j) (sym (line-digits side vb o i h) j) s)
+
+  -- c columns of B
+  columns-are : (c : ℕ) → walk c (λ o. walk (vb .rows) (λ i. solveOne K sys start sa (turn side i o) (line side i o))) s₀ ≡ solved K side uplo t diag start mat vb (c * vb .rows) s₀
+  columns-are c =
+      walk-cong (λ o. walk (vb .rows) (λ i. solveOne K sys start sa (turn side i o) (line side i o))) (λ o. walk (vb .rows) (λ i. nth K side uplo t diag start va vb sa (o * vb .rows + i))) c
+      (λ o h s. walk-cong (λ i. solveOne K sys start sa (turn side i o) (line side i o)) (λ i. nth K side uplo t diag start va vb sa (o * vb .rows + i)) (vb .rows) (λ i g r. digit-is o i g r) s)
+      s₀
+      ∙ walk-nested (nth K side uplo t diag start va vb sa) (vb .rows) c s₀
+      ∙ solved-walk K side uplo t diag start va vb sa (c * vb .rows) s₀
+
+  -- the first k elements of the first column
+  begun-is : (k : ℕ) → k ≤ vb .rows → walk k (λ i. solveOne K sys start sa (turn side i 0) (line side i 0)) s₀ ≡ solved K side uplo t diag start mat vb k s₀
+  begun-is k h =
+      walk-cong (λ i. solveOne K sys start sa (turn side i 0) (line side i 0)) (nth K side uplo t diag start va vb sa) k (λ i g r. digit-is 0 i (omega arith) r ∙ ap (λ (n : ℕ). nth K side uplo t diag start va vb sa n r) (from-zero i)) s₀
+      ∙ solved-walk K side uplo t diag start va vb sa k s₀
+    where
+      from-zero : (i : ℕ) → 0 * vb .rows + i ≡ i
+      from-zero i = omega arith
+
+-- ---- what a solve gives
+
+module _ (K : Kind) (x z : Outcome K) (r : Answer) (s : List (K .Cell)) where
+  gives-first : (b : Bool) → b ≡ true → Gives K x r s → Gives K (cond b x z) r s
+  gives-first true e g = g
+  gives-first false e g = absurd (clash e refl)
+
+  gives-second : (b : Bool) → b ≡ false → Gives K z r s → Gives K (cond b x z) r s
+  gives-second true e g = absurd (clash refl e)
+  gives-second false e g = g
+
+-- there are elements where there are unknowns and lines
+some-elements : (side : Side) (v : View) (k : ℕ) → k < (linesView side v) .rows → 0 < (linesView side v) .cols → 0 < v .rows * v .cols
+some-elements Left v k h g = let w : 0 * v .cols + 0 < v .rows * v .cols = digits-lt (omega arith) g in omega (arith, w)
+some-elements Right v k h g = let w : 0 * v .cols + 0 < v .rows * v .cols = digits-lt g (omega arith) in omega (arith, w)
+
+some-lines : (side : Side) (v : View) → 0 < v .rows * v .cols → 0 < (linesView side v) .cols
+some-lines Left v h = factor-pos 0 (v .cols) (v .rows) (subst (λ (n : ℕ). 0 < n) (mul-comm (v .rows) (v .cols)) h)
+some-lines Right v h = factor-pos 0 (v .rows) (v .cols) h
+
+module _ (K : Kind) (side : Side) (uplo : UpLo) (t : Trans) (diag : Diag) (start : K .Elem → K .Elem) (va vb : View) (sa s₀ : List (K .Cell))
+    (reached : ℕ → List (K .Cell)) (whole : List (K .Cell))
+    (reaches : (k : ℕ) → k < (linesView side vb) .rows → reached k ≡ solved K side uplo t diag start (elem K sa va) vb (elementsBefore side vb k) s₀)
+    (wholly : whole ≡ solved K side uplo t diag start (elem K sa va) vb (vb .rows * vb .cols) s₀)
+    (r : Answer) (s : List (K .Cell)) (h : Solved K (systemOf side uplo t diag va vb) sa reached whole r s) where
+  abbrev sys' : System
+  sys' = systemOf side uplo t diag va vb
+
+  abbrev mat' : Matrix K
+  mat' = elem K sa va
+
+  abbrev first : ℕ
+  first = firstZero K sys' sa
+
+  abbrev lastly : Bool
+  lastly = lastFirst side uplo t
+
+  abbrev order : ℕ
+  order = orderOf side vb
+
+  abbrev total : ℕ
+  total = vb .rows * vb .cols
+
+  abbrev zeroAt : ℕ → Bool
+  zeroAt q = zeroPivot K diag mat' q
+
+  abbrev gives : Type 0
+  gives = Gives K (substituted K side uplo t diag start mat' vb s₀) r s
+
+  -- it stops at a zero pivot
+  module _ (e : stops sys' first ≡ true) where
+    below : first < (linesView side vb) .rows
     unfolding stops
-    stopped = and-both (ltb 0 total) (ltb k m) some (lt-ltb k m k-lt)
+    below = ltb-true first ((linesView side vb) .rows) (and-right (ltb 0 ((linesView side vb) .cols)) (ltb first ((linesView side vb) .rows)) e)
 
-    gives-stop : Gives K (substituted K side uplo t diag start a v s₀) r s
-    unfolding substituted solvedAfter zeroAfter reached verdict
+    lines : 0 < (linesView side vb) .cols
+    unfolding stops
+    lines = ltb-true 0 ((linesView side vb) .cols) (and-left (ltb 0 ((linesView side vb) .cols)) (ltb first ((linesView side vb) .rows)) e)
+
+    zero-there : zeroAt (inOrder lastly order first) ≡ true
+    zero-there = sym (zero-is K side uplo t diag start va vb sa first) ∙ first-true ((linesView side vb) .rows) (zeroAfter K sys' sa) below
+
+    is-singular : singular K side uplo t diag start mat' vb ≡ true
+    is-singular =
+        and-both (ltb 0 total) (any order zeroAt) (lt-ltb 0 total (some-elements side vb first below lines))
+        (found order zeroAt (inOrder lastly order first) (in-order-lt lastly order first (subst (λ (n : ℕ). first < n) (order-is side vb) below)) zero-there)
+
+    gives-stop : gives
+    unfolding substituted
     gives-stop =
-        gives-first K _ _ r s (singular K side uplo t diag start a v) e
+        gives-first K _ _ r s (singular K side uplo t diag start mat' vb) is-singular
         (record {
-          answer = ap answerNumber (answered ∙ ap (λ (b : Bool). cond b Singular Done) stopped);
+          answer = ap answerNumber (h .answer ∙ ap (λ (b : Bool). cond b Singular Done) e);
           slab =
-              so-far
-              ∙ ap (λ (x : ℕ). solved K side uplo t diag start a v x s₀)
-              (reaches ∙ ap (λ (b : Bool). cond b (elementsBefore side v k) total) stopped ∙ ap (elementsBefore side v) first);
+              h .slab
+              ∙ ap (λ (b : Bool). cond b (reached first) whole) e
+              ∙ reaches first below
+              ∙ ap (λ (k : ℕ). solved K side uplo t diag start mat' vb (elementsBefore side vb k) s₀) (first-is-first K side uplo t diag start va vb sa);
         })
 
-  -- no pivot is zero, or the target is empty
-  module _ (e : singular K side uplo t diag start a v ≡ false) where
-    not-stopped : stops side v k ≡ false
-    unfolding solvedAfter zeroAfter stops
-    not-stopped =
-        is-false (ltb 0 total && ltb k m)
-        (λ h.
-        let below : k < m = ltb-true k m (and-right (ltb 0 total) (ltb k m) h) in
-        let zero-there = ap (zeroAfter K side uplo t diag a v) first ∙ first-true m (zeroAfter K side uplo t diag a v) (subst (λ (x : ℕ). x < m) first below) in
+  -- it does not
+  module _ (e : stops sys' first ≡ false) where
+    not-singular : singular K side uplo t diag start mat' vb ≡ false
+    unfolding stops
+    not-singular =
+        is-false (singular K side uplo t diag start mat' vb)
+        (λ g.
+        let w = finds order zeroAt (and-right (ltb 0 total) (any order zeroAt) g) in
+        let q : ℕ = inOrder lastly order (w .0) in
+        let here : q < (linesView side vb) .rows = subst (λ (n : ℕ). q < n) (sym (order-is side vb)) (in-order-lt lastly order (w .0) (w .1)) in
+        let zero-here : zeroAfter K sys' sa q ≡ true = zero-is K side uplo t diag start va vb sa q ∙ ap zeroAt (in-order-twice lastly order (w .0) (w .1)) ∙ w .2 in
         clash
-        (and-both (ltb 0 total) (any m (λ q. zeroPivot K diag a q)) (and-left (ltb 0 total) (ltb k m) h)
-        (found m (λ q. zeroPivot K diag a q) (inOrder last m k) (in-order-lt last m k below) zero-there))
+        (and-both (ltb 0 ((linesView side vb) .cols)) (ltb first ((linesView side vb) .rows))
+        (lt-ltb 0 ((linesView side vb) .cols) (some-lines side vb (ltb-true 0 total (and-left (ltb 0 total) (any order zeroAt) g))))
+        (lt-ltb first ((linesView side vb) .rows) (first-lt ((linesView side vb) .rows) (zeroAfter K sys' sa) q here zero-here)))
         e)
 
-    gives-all : Gives K (substituted K side uplo t diag start a v s₀) r s
-    unfolding substituted reached verdict
+    gives-all : gives
+    unfolding substituted
     gives-all =
-        gives-second K _ _ r s (singular K side uplo t diag start a v) e
+        gives-second K _ _ r s (singular K side uplo t diag start mat' vb) not-singular
         (record {
-          answer = ap answerNumber (answered ∙ ap (λ (b : Bool). cond b Singular Done) not-stopped);
-          slab =
-              so-far
-              ∙ ap (λ (x : ℕ). solved K side uplo t diag start a v x s₀)
-              (reaches ∙ ap (λ (b : Bool). cond b (elementsBefore side v k) total) not-stopped);
+          answer = ap answerNumber (h .answer ∙ ap (λ (b : Bool). cond b Singular Done) e);
+          slab = h .slab ∙ ap (λ (b : Bool). cond b (reached first) whole) e ∙ wholly;
         })
 
-  pub solve-gives : Gives K (substituted K side uplo t diag start a v s₀) r s
-  solve-gives = go (singular K side uplo t diag start a v) refl
+  solve-gives : gives
+  solve-gives = go (stops sys' first) refl
     where
-      go : (b : Bool) → singular K side uplo t diag start a v ≡ b → Gives K (substituted K side uplo t diag start a v s₀) r s
+      go : (b : Bool) → stops sys' first ≡ b → gives
       go true e = gives-stop e
       go false e = gives-all e
 
--- ---- how far
+module _ (K : Kind) (uplo : UpLo) (t : Trans) (diag : Diag) (start : K .Elem → K .Elem) (va vb : View) (y : System) (sa s₀ : List (K .Cell)) (r : Answer) (s : List (K .Cell)) where
+  pub left-gives : y ≡ systemOf Left uplo t diag va vb → SolvedLeft K y start sa s₀ r s → Gives K (substituted K Left uplo t diag start (elem K sa va) vb s₀) r s
+  left-gives made h =
+      solve-gives K Left uplo t diag start va vb sa s₀
+      (λ k. solveLine K (systemOf Left uplo t diag va vb) start sa 0 k s₀)
+      (walk (vb .cols) (λ l. solveLine K (systemOf Left uplo t diag va vb) start sa l (vb .rows)) s₀)
+      (λ k g. begun-is K Left uplo t diag start va vb sa s₀ k (omega arith))
+      (columns-are K Left uplo t diag start va vb sa s₀ (vb .cols) ∙ ap (λ (n : ℕ). solved K Left uplo t diag start (elem K sa va) vb n s₀) (mul-comm (vb .cols) (vb .rows)))
+      r
+      s
+      (subst (λ (x : System). SolvedLeft K x start sa s₀ r s) made h)
 
-module _ (side : Side) (v : View) (k : ℕ) where
-  pub stops-before : stops side v k ≡ true → (0 < v .rows * v .cols) × (k < orderOf side v)
-  unfolding stops
-  stops-before e =
-      let total = v .rows * v .cols in
-      let m = orderOf side v in
-      (ltb-true 0 total (and-left (ltb 0 total) (ltb k m) e), ltb-true k m (and-right (ltb 0 total) (ltb k m) e))
+  pub right-gives : y ≡ systemOf Right uplo t diag va vb → SolvedRight K y start sa s₀ r s → Gives K (substituted K Right uplo t diag start (elem K sa va) vb s₀) r s
+  right-gives made h =
+      solve-gives K Right uplo t diag start va vb sa s₀
+      (λ k. walk k (solveAcross K (systemOf Right uplo t diag va vb) start sa) s₀)
+      (walk (vb .cols) (solveAcross K (systemOf Right uplo t diag va vb) start sa) s₀)
+      (λ k g. columns-are K Right uplo t diag start va vb sa s₀ k)
+      (columns-are K Right uplo t diag start va vb sa s₀ (vb .cols) ∙ ap (λ (n : ℕ). solved K Right uplo t diag start (elem K sa va) vb n s₀) (mul-comm (vb .cols) (vb .rows)))
+      r
+      s
+      (subst (λ (x : System). SolvedRight K x start sa s₀ r s) made h)
 
-  pub stops-within : (b : Bool) → (v .rows ≤ limit) × (v .cols ≤ limit) → b ≡ stops side v k → b ≡ true → k ≤ limit
-  stops-within b small told is = within side v k small (stops-before (sym told ∙ is) .1)
+-- ---- the ways out of the two solves
 
-  -- no farther than there are elements
-  pub reached-le : (n : ℕ) → n ≡ reached side v k → n ≤ v .rows * v .cols
-  unfolding reached
-  reached-le n e = subst (λ (x : ℕ). x ≤ v .rows * v .cols) (sym e) (go (stops side v k) refl)
-    where
-      below : {x y : ℕ} → x < y → x ≤ y
-      below h = omega arith
+first-le : (n : ℕ) (f : ℕ → Bool) → firstAt n f ≤ n
+unfolding firstAt
+first-le zero f = omega arith
+first-le (suc n) f = go (f 0) (first-le n (λ k. f (suc k)))
+  where
+    go : (b : Bool) → firstAt n (λ k. f (suc k)) ≤ n → cond b zero (suc (firstAt n (λ k. f (suc k)))) ≤ suc n
+    go true h = omega arith
+    go false h = omega arith
 
-      go : (b : Bool) → stops side v k ≡ b → cond b (elementsBefore side v k) (v .rows * v .cols) ≤ v .rows * v .cols
-      go true h = let w = stops-before h in below (first-element-in side v k (w .0) (w .1))
-      go false h = omega arith
+module _ (K : Kind) (y : System) (start : K .Elem → K .Elem) (a s₀ : List (K .Cell)) where
+  -- by whether it stops
+  at-stop : (reached : ℕ → List (K .Cell)) (whole s : List (K .Cell)) → stops y (firstZero K y a) ≡ true → s ≡ reached (firstZero K y a) → Solved K y a reached whole Singular s
+  at-stop reached whole s e h = record {
+    answer = sym (ap (λ (b : Bool). cond b Singular Done) e);
+    slab = h ∙ sym (ap (λ (b : Bool). cond b (reached (firstZero K y a)) whole) e);
+  }
 
-  -- where the target has elements, and where it has none
-  pub stops-some : (total m : ℕ) → total ≡ v .rows * v .cols → 0 < total → m ≡ orderOf side v → ltb k m ≡ stops side v k
-  unfolding stops
-  stops-some total m counted p ordered =
-      ap (ltb k) ordered
-      ∙ ap (λ (b : Bool). b && ltb k (orderOf side v)) (sym (lt-ltb 0 (v .rows * v .cols) (subst (λ (x : ℕ). 0 < x) counted p)))
+  at-end : (reached : ℕ → List (K .Cell)) (whole s : List (K .Cell)) → stops y (firstZero K y a) ≡ false → s ≡ whole → Solved K y a reached whole Done s
+  at-end reached whole s e h = record {
+    answer = sym (ap (λ (b : Bool). cond b Singular Done) e);
+    slab = h ∙ sym (ap (λ (b : Bool). cond b (reached (firstZero K y a)) whole) e);
+  }
 
-  pub stops-none : (total : ℕ) → total ≡ v .rows * v .cols → total ≤ 0 → false ≡ stops side v k
-  unfolding stops
-  stops-none total counted q =
-      sym (and-no-left (ltb 0 (v .rows * v .cols)) (ltb k (orderOf side v)) (le-ltb 0 (v .rows * v .cols) (subst (λ (x : ℕ). x ≤ 0) counted q)))
+  module _ (c : ℕ) (wide : c ≡ y .b .cols) where
+    -- no lines
+    module _ (h : c ≤ 0) where
+      none : stops y (firstZero K y a) ≡ false
+      unfolding stops
+      none = and-no-left (ltb 0 (y .b .cols)) (ltb (firstZero K y a) (y .b .rows)) (le-ltb 0 (y .b .cols) (omega arith))
 
-  -- by what the test says
-  module _ (b c : Bool) (told : b ≡ stops side v k) (is : b ≡ c) where
-    pub reached-is : (r : ℕ) → r ≡ cond c (elementsBefore side v k) (v .rows * v .cols) → r ≡ reached side v k
-    unfolding reached
-    reached-is r e = e ∙ ap (λ (x : Bool). cond x (elementsBefore side v k) (v .rows * v .cols)) (sym is ∙ told)
+      pub left-none : SolvedLeft K y start a s₀ Done s₀
+      left-none = at-end _ _ s₀ none (walk-end (λ l. solveLine K y start a l (y .b .rows)) s₀ 0 (y .b .cols) s₀ (omega arith) (omega arith) (walk-start _ s₀))
 
-    pub verdict-is : (r : Answer) → r ≡ cond c Singular Done → r ≡ verdict side v k
-    unfolding verdict
-    verdict-is r e = e ∙ ap (λ (x : Bool). cond x Singular Done) (sym is ∙ told)
+      pub right-none : SolvedRight K y start a s₀ Done s₀
+      unfolding walk
+      right-none = at-end _ _ s₀ none (still (y .b .rows))
+        where
+          across : (k : ℕ) (s : List (K .Cell)) → s ≡ solveAcross K y start a k s
+          across k s = walk-end (λ l. solveOne K y start a k l) s 0 (y .b .cols) s (omega arith) (omega arith) (walk-start (λ l. solveOne K y start a k l) s)
 
--- ---- the ways out of the functions that count
+          still : (n : ℕ) → s₀ ≡ walk n (solveAcross K y start a) s₀
+          still zero = refl
+          still (suc n) = still n ∙ across n _
 
-module _ (side : Side) (uplo : UpLo) (t : Trans) (v : View) (k : ℕ) (below : k < orderOf side v) (b : Bool) (m r : ℕ) (counted : m ≡ orderOf side v) where
-  pub solved-after-is : b ≡ lastFirst side uplo t → r ≡ inOrder b m k → (r ≡ solvedAfter side uplo t v k) × (r < orderOf side v)
-  unfolding solvedAfter
-  solved-after-is lasts e =
-      let there : r ≡ inOrder (lastFirst side uplo t) (orderOf side v) k = e ∙ (λ i. inOrder (lasts i) (counted i) k) in
-      (there, subst (λ (x : ℕ). x < orderOf side v) (sym there) (in-order-lt (lastFirst side uplo t) (orderOf side v) k below))
+    module _ (h : 0 < c) (m k : ℕ) (counted : m ≡ y .b .rows) (met : k ≡ firstZero K y a) where
+      -- a zero pivot
+      module _ (g : k < m) where
+        stopped : stops y (firstZero K y a) ≡ true
+        unfolding stops
+        stopped =
+            and-both (ltb 0 (y .b .cols)) (ltb (firstZero K y a) (y .b .rows)) (lt-ltb 0 (y .b .cols) (omega arith))
+            (subst (λ (n : ℕ). ltb n (y .b .rows) ≡ true) met (lt-ltb k (y .b .rows) (omega arith)))
 
-  pub multiplied-after-is : b ≡ not (lastFirst side uplo t) → r ≡ inOrder b m k → (r ≡ multipliedAfter side uplo t v k) × (r < orderOf side v)
-  unfolding multipliedAfter
-  multiplied-after-is lasts e =
-      let there : r ≡ inOrder (not (lastFirst side uplo t)) (orderOf side v) k = e ∙ (λ i. inOrder (lasts i) (counted i) k) in
-      (there, subst (λ (x : ℕ). x < orderOf side v) (sym there) (in-order-lt (not (lastFirst side uplo t)) (orderOf side v) k below))
+        pub left-stopped : (s : List (K .Cell)) → s ≡ solveLine K y start a 0 k s₀ → SolvedLeft K y start a s₀ Singular s
+        left-stopped s e = at-stop _ _ s stopped (e ∙ ap (λ (n : ℕ). solveLine K y start a 0 n s₀) met)
 
-  pub least-after-is : b ≡ lastFirst side uplo t → r ≡ leastSolved b m k → (r ≡ leastAfter side uplo t v k) × (r + k ≤ orderOf side v)
-  unfolding leastAfter
-  least-after-is lasts e =
-      let there : r ≡ leastSolved (lastFirst side uplo t) (orderOf side v) k = e ∙ (λ i. leastSolved (lasts i) (counted i) k) in
-      (there, subst (λ (x : ℕ). x + k ≤ orderOf side v) (sym there) (least-solved-le (lastFirst side uplo t) (orderOf side v) k below))
+        pub right-stopped : (s : List (K .Cell)) → s ≡ walk k (solveAcross K y start a) s₀ → SolvedRight K y start a s₀ Singular s
+        right-stopped s e = at-stop _ _ s stopped (e ∙ ap (λ (n : ℕ). walk n (solveAcross K y start a) s₀) met)
+
+      -- none
+      module _ (g : m ≤ k) where
+        all-of-them : k ≡ y .b .rows
+        all-of-them = let w : k ≤ y .b .rows = subst (λ (n : ℕ). n ≤ y .b .rows) (sym met) (first-le (y .b .rows) (zeroAfter K y a)) in omega arith
+
+        ended : stops y (firstZero K y a) ≡ false
+        unfolding stops
+        ended =
+            is-false (ltb 0 (y .b .cols) && ltb (firstZero K y a) (y .b .rows))
+            (λ e. let w : firstZero K y a < y .b .rows = ltb-true (firstZero K y a) (y .b .rows) (and-right (ltb 0 (y .b .cols)) (ltb (firstZero K y a) (y .b .rows)) e) in below w)
+          where
+            below : firstZero K y a < y .b .rows → ⊥
+            below w = omega (arith, w, met, all-of-them)
+
+        pub left-done : (s s' : List (K .Cell)) → s ≡ solveLine K y start a 0 k s₀ → s' ≡ walk (y .b .cols - 1) (λ l. solveLine K y start a (l + 1) (y .b .rows)) s → SolvedLeft K y start a s₀ Done s'
+        unfolding walk
+        left-done s s' first others =
+            at-end _ _ s' ended
+            (others
+            ∙ ap (walk (y .b .cols - 1) (λ l. line (l + 1))) (first ∙ ap (λ (n : ℕ). solveLine K y start a 0 n s₀) all-of-them ∙ one)
+            ∙ walk-cong (λ l. line (l + 1)) (λ l. line (1 + l)) (y .b .cols - 1) (λ l b t. ap (λ (n : ℕ). line n t) (after l)) (walk 1 line s₀)
+            ∙ walk-add line s₀ 1 (y .b .cols - 1)
+            ∙ ap (λ (n : ℕ). walk n line s₀) lines)
+          where
+            line : ℕ → List (K .Cell) → List (K .Cell)
+            line l = solveLine K y start a l (y .b .rows)
+
+            one : line 0 s₀ ≡ walk 1 line s₀
+            one = refl
+
+            after : (l : ℕ) → l + 1 ≡ 1 + l
+            after l = omega arith
+
+            lines : 1 + (y .b .cols - 1) ≡ y .b .cols
+            lines = omega arith
+
+        pub right-done : (s : List (K .Cell)) → s ≡ walk k (solveAcross K y start a) s₀ → SolvedRight K y start a s₀ Done s
+        right-done s e = at-end _ _ s ended (e ∙ ap (λ (n : ℕ). walk n (solveAcross K y start a) s₀) all-of-them)

@@ -1,4 +1,6 @@
 -- What the triangular engine's contracts cite, over any number kind.
-pub mod Reach
-pub mod Ready
+pub mod Walk
+pub mod Triangles
+pub mod Solve
 pub mod Multiply
+pub mod Ready

@@ -1,45 +1,58 @@
 -- The triangular product in place, element after element: each is worked out from the slab as it is then.
-use Prim.Native.Nat.{ℕ, zero, suc}
-use mathlib.Core.Bool.{Bool, cond}
+use Prim.Native.Nat.{ℕ, suc, _-_}
+use mathlib.Core.Bool.{not, cond}
 use mathlib.Core.List.{List}
 use Rattle.number.specs.Kind.{Kind}
-use Rattle.view.specs.declared.View.{View}
-use Rattle.view.specs.declared.Trans.{Trans}
-use Rattle.view.specs.declared.UpLo.{UpLo}
 use Rattle.view.specs.declared.Diag.{Diag}
+use Rattle.view.specs.declared.Diag.the-variants.{NonUnit, Unit}
 use Rattle.view.specs.declared.Side.{Side}
 use Rattle.view.specs.declared.Side.the-variants.{Left, Right}
-use Rattle.view.specs.Checks.{orderOf}
-use Rattle.blas.specs.Matrix.{Matrix, sumOver}
-use Rattle.blas.specs.Triangular.{inOp, triangular}
-use Rattle.blas.specs.Substitution.{unknownAt, unknown, turnOf, lineOf}
-use Rattle.order.specs.Reach.{multipliedAfter}
+use Rattle.view.specs.Place.{index}
+use Rattle.slab.specs.Elem.{elem}
+use Rattle.slab.specs.Run.{more}
+use Rattle.blas.specs.Substitution.{inOrder}
+use Rattle.order.specs.declared.System.{System}
+use Rattle.order.specs.Triangles.{coefficient, weigh}
+use Rattle.order.specs.Walk.{walk}
 
--- element p of a line goes into element q of it
-abbrev pub goesInto : Side → UpLo → Trans → ℕ → ℕ → Bool
-goesInto Left uplo t q p = inOp uplo t q p
-goesInto Right uplo t q p = inOp uplo t p q
+-- element (i, j) of B: how many elements of its line come before it, and its line
+abbrev pub turn : Side → ℕ → ℕ → ℕ
+turn Left i j = i
+turn Right i j = j
 
--- what it brings there, of value x, in this order of operands
-abbrev pub weighs : (K : Kind) → Side → Diag → Trans → Matrix K → ℕ → ℕ → K .Elem → K .Elem
-weighs K Left diag t a q p x = K .mul (triangular K diag t a q p) x
-weighs K Right diag t a q p x = K .mul x (triangular K diag t a p q)
+abbrev pub line : Side → ℕ → ℕ → ℕ
+line Left i j = j
+line Right i j = i
 
--- a sum with what element p of line l brings into element q, where it goes into it
-unfoldable pub addTerm : (K : Kind) → Side → UpLo → Trans → Diag → Matrix K → View → List (K .Cell) → ℕ → ℕ → ℕ → K .Elem → K .Elem
-addTerm K side uplo t diag a v s q l p sum = cond (goesInto side uplo t q p) (K .add sum (weighs K side diag t a q p (unknown K side s v p l))) sum
+-- a diagonal element c, or ONE
+abbrev pub ownDiag : (K : Kind) → Diag → K .Elem → K .Elem
+ownDiag K NonUnit c = c
+ownDiag K Unit c = K .one
 
--- element q of line l of the product, with n elements to a line
-abbrev pub lineDot : (K : Kind) → Side → UpLo → Trans → Diag → Matrix K → View → ℕ → List (K .Cell) → ℕ → ℕ → K .Elem
-lineDot K side uplo t diag a v n s q l = sumOver K n (λ p. goesInto side uplo t q p) (λ p. weighs K side diag t a q p (unknown K side s v p l))
+module _ (K : Kind) (y : System) (a : List (K .Cell)) where
+  -- what element p of line l brings into element q, and what element q brings itself
+  abbrev pub term : List (K .Cell) → ℕ → ℕ → ℕ → K .Elem
+  term s q l p = weigh K (y .side) (coefficient K y a q p) (elem K s (y .b) p l)
 
-module _ (K : Kind) (side : Side) (uplo : UpLo) (t : Trans) (diag : Diag) (start : K .Elem → K .Elem) (a : Matrix K) (v : View) where
-  unfoldable pub multiplyOne : ℕ → ℕ → List (K .Cell) → List (K .Cell)
-  multiplyOne k l s =
-      K .put s (unknownAt side v (multipliedAfter side uplo t v k) l)
-      (start (lineDot K side uplo t diag a v (orderOf side v) s (multipliedAfter side uplo t v k) l))
+  abbrev pub own : List (K .Cell) → ℕ → ℕ → K .Elem
+  own s q l = weigh K (y .side) (ownDiag K (y .diag) (coefficient K y a q q)) (elem K s (y .b) q l)
 
-  -- the first n elements in order
-  unfoldable pub multiplied : ℕ → List (K .Cell) → List (K .Cell)
-  multiplied zero s = s
-  multiplied (suc n) s = multiplyOne (turnOf side v n) (lineOf side v n) (multiplied n s)
+  -- element q of line l of the product: its own term before those behind it, or after those before it
+  unfoldable pub lineSum : List (K .Cell) → ℕ → ℕ → K .Elem
+  lineSum s q l =
+      cond (y .last)
+      (more K (K .add (K .zero) (own s q l)) (term s q l) (suc q) (y .b .rows - suc q))
+      (K .add (more K (K .zero) (term s q l) 0 q) (own s q l))
+
+  module _ (start : K .Elem → K .Elem) where
+    -- the element of line l that is multiplied after k others: against solving order
+    unfoldable pub multiplyOne : ℕ → ℕ → List (K .Cell) → List (K .Cell)
+    multiplyOne k l s =
+        K .put s (index (y .b) (inOrder (not (y .last)) (y .b .rows) k) l) (start (lineSum s (inOrder (not (y .last)) (y .b .rows) k) l))
+
+    -- the first m rows of column j of B, and all of B
+    abbrev pub multiplyColumn : ℕ → ℕ → List (K .Cell) → List (K .Cell)
+    multiplyColumn j m s = walk m (λ i. multiplyOne (turn (y .side) i j) (line (y .side) i j)) s
+
+    abbrev pub multiplyAll : List (K .Cell) → List (K .Cell)
+    multiplyAll s = walk (y .cols) (λ j. multiplyColumn j (y .rows)) s

@@ -1,26 +1,35 @@
-// In what order the triangular routines go over their target, how far, and where they read and write: the same for every number kind.
+// A triangular system or product, chosen before its loops, and the order in which it goes over its target: the same for every number kind.
 // Translated from control-rs; NOTICE names the source.
 
 ghost use mathlib.Core.Path.{_≡_};
-ghost use mathlib.Core.Bool.{not, _&&_};
-ghost use Prim.Native.Nat.{_≤_, _<_, _+_, _*_};
-ghost use lib.Dec.{eqb};
-ghost use Rattle.view.specs.Checks.{orderOf};
-ghost use Rattle.view.specs.Refusals.{limit};
+ghost use Prim.Native.Nat.{_≤_, _<_, _+_};
 ghost use Rattle.blas.specs.Triangular as triangular;
 ghost use Rattle.blas.specs.Substitution as substitution;
-ghost use Rattle.order.specs.Multiply.{goesInto};
-ghost use Rattle.order.specs.Ready.{opCoord, unknownCoord};
-ghost use Rattle.order.specs.Reach as reach;
-use view::Answer;
-use view::Coord;
+ghost use Rattle.order.specs.Triangles.{linesView, systemOf};
+ghost use Rattle.order.specs.Multiply as multiply;
 use view::Diag;
 use view::Side;
 use view::Trans;
 use view::UpLo;
 use view::View;
 use view::cols;
+use view::conjugates;
+use view::op_view;
 use view::rows;
+use view::transposed;
+
+// What a triangular routine works on. Coefficient (q, p) of its equations is element (q, p) of `a`, conjugated or not; unknown p of line l is
+// element (p, l) of `b`. The last unknown is solved first, or the first one is. `rows` and `cols` are B's own.
+pub struct System {
+    pub side: Side,
+    pub diag: Diag,
+    pub conjugated: bool,
+    pub last: bool,
+    pub a: View,
+    pub b: View,
+    pub rows: usize,
+    pub cols: usize,
+}
 
 // Whether op(A) is upper triangular, of a Lower and of an Upper A, and of either.
 fn lower_turned(t: Trans) -> bool
@@ -52,33 +61,6 @@ fn op_upper(uplo: UpLo, t: Trans) -> bool
     }
 }
 
-// Whether (i, j) is in op(A)'s triangle.
-fn in_op(uplo: UpLo, t: Trans, i: usize, j: usize) -> bool
-    ensures { λ r. ⌜ r ≡ triangular.inOp uplo t i j ⌝ }
-{
-    if op_upper(uplo, t) { i <= j } else { j <= i }
-}
-
-// Whether element p of a line goes into element q of it.
-pub fn goes_into(side: Side, uplo: UpLo, t: Trans, q: usize, p: usize) -> bool
-    ensures { λ r. ⌜ r ≡ goesInto side uplo t q p ⌝ }
-{
-    match side {
-        Side::Left => in_op(uplo, t, q, p),
-        Side::Right => in_op(uplo, t, p, q),
-    }
-}
-
-// Whether (i, j) is on a diagonal that counts as ones.
-pub fn unit_at(diag: Diag, i: usize, j: usize) -> bool
-    ensures { λ r. ⌜ r ≡ triangular.isUnit diag && eqb i j ⌝ }
-{
-    match diag {
-        Diag::NonUnit => false,
-        Diag::Unit => i == j,
-    }
-}
-
 // Whether the last unknown is solved first.
 fn last_first(side: Side, uplo: UpLo, t: Trans) -> bool
     ensures { λ r. ⌜ r ≡ substitution.lastFirst side uplo t ⌝ }
@@ -89,158 +71,67 @@ fn last_first(side: Side, uplo: UpLo, t: Trans) -> bool
     }
 }
 
-// Whether the last element of a line is multiplied first: against solving order.
-fn last_multiplied(side: Side, uplo: UpLo, t: Trans) -> bool
-    ensures { λ r. ⌜ r ≡ not (substitution.lastFirst side uplo t) ⌝ }
-{
-    match side {
-        Side::Left => !op_upper(uplo, t),
-        Side::Right => op_upper(uplo, t),
-    }
-}
-
-// How many unknowns a line of B has.
-pub fn order_of(side: Side, b: View) -> usize
-    ensures { λ r. ⌜ r ≡ orderOf side b ⌝ }
-{
-    match side {
-        Side::Left => rows(b),
-        Side::Right => cols(b),
-    }
-}
-
 // Of m unknowns the one that comes after k others.
-fn in_order(last: bool, m: usize, k: usize) -> usize
+pub fn in_order(last: bool, m: usize, k: usize) -> usize
     requires { ⌜ k < m ⌝ }
-    ensures { λ r. ⌜ r ≡ substitution.inOrder last m k ⌝ }
+    ensures { λ r. ⌜ (r ≡ substitution.inOrder last m k) × (r < m) ⌝ }
 {
     if last { m - 1 - k } else { k }
 }
 
-// The unknown of a line that is solved after k others.
-pub fn solved_after(side: Side, uplo: UpLo, t: Trans, b: View, k: usize) -> usize
-    requires { ⌜ k < orderOf side b ⌝ }
-    ensures { λ r. ⌜ (r ≡ reach.solvedAfter side uplo t b k) × (r < orderOf side b) ⌝ }
-{
-    in_order(last_first(side, uplo, t), order_of(side, b), k)
-}
-
-// The element of a line that is multiplied after k others.
-pub fn multiplied_after(side: Side, uplo: UpLo, t: Trans, b: View, k: usize) -> usize
-    requires { ⌜ k < orderOf side b ⌝ }
-    ensures { λ r. ⌜ (r ≡ reach.multipliedAfter side uplo t b k) × (r < orderOf side b) ⌝ }
-{
-    in_order(last_multiplied(side, uplo, t), order_of(side, b), k)
-}
-
 // The least of the k unknowns that are solved first.
-pub fn least_solved(side: Side, uplo: UpLo, t: Trans, b: View, k: usize) -> usize
-    requires { ⌜ k < orderOf side b ⌝ }
-    ensures { λ r. ⌜ (r ≡ reach.leastAfter side uplo t b k) × (r + k ≤ orderOf side b) ⌝ }
+pub fn least_solved(last: bool, m: usize, k: usize) -> usize
+    requires { ⌜ k < m ⌝ }
+    ensures { λ r. ⌜ (r ≡ substitution.leastSolved last m k) × (r + k ≤ m) ⌝ }
 {
-    if last_first(side, uplo, t) {
-        order_of(side, b) - k
-    } else {
-        0
-    }
+    if last { m - k } else { 0 }
 }
 
-// How many elements b has.
-pub fn elements(b: View) -> usize
-    requires { ⌜ (b .rows ≤ limit) × (b .cols ≤ limit) ⌝ }
-    ensures { λ r. ⌜ r ≡ b .rows * b .cols ⌝ }
-{
-    rows(b) * cols(b)
-}
-
-// How many unknowns come before the n-th element of its line, and its line.
-pub fn turn_of(side: Side, b: View, n: usize) -> usize
-    requires { ⌜ n < b .rows * b .cols ⌝ }
-    ensures { λ r. ⌜ r ≡ substitution.turnOf side b n ⌝ }
-{
-    let m = rows(b);
-    match side {
-        Side::Left => n % m,
-        Side::Right => n / m,
-    }
-}
-
-pub fn line_of(side: Side, b: View, n: usize) -> usize
-    requires { ⌜ n < b .rows * b .cols ⌝ }
-    ensures { λ r. ⌜ r ≡ substitution.lineOf side b n ⌝ }
-{
-    let m = rows(b);
-    match side {
-        Side::Left => n / m,
-        Side::Right => n % m,
-    }
-}
-
-// How many elements are solved before the first line's unknown that comes after k others.
-fn elements_before(side: Side, b: View, k: usize) -> usize
-    requires { ⌜ (b .rows ≤ limit) × (k ≤ limit) ⌝ }
-    ensures { λ r. ⌜ r ≡ substitution.elementsBefore side b k ⌝ }
+// The view whose columns are the lines.
+fn lines_view(side: Side, v: View) -> View
+    ensures { λ r. ⌜ r ≡ linesView side v ⌝ }
 {
     match side {
-        Side::Left => k,
-        Side::Right => k * rows(b),
+        Side::Left => v,
+        Side::Right => transposed(v),
     }
 }
 
-// Whether a solve stops at a zero pivot, where k unknowns come before the first one.
-fn stops(side: Side, b: View, k: usize) -> bool
-    requires { ⌜ (b .rows ≤ limit) × (b .cols ≤ limit) ⌝ }
-    ensures { λ r. ⌜ r ≡ reach.stops side b k ⌝ }
+// op(A) X = B or X op(A) = B; or the product in its place.
+pub fn system_of(side: Side, uplo: UpLo, t: Trans, diag: Diag, a: View, b: View) -> System
+    ensures { λ r. ⌜ r ≡ systemOf side uplo t diag a b ⌝ }
 {
-    if elements(b) > 0 {
-        k < order_of(side, b)
-    } else {
-        false
+    let conjugated = conjugates(t);
+    let last = last_first(side, uplo, t);
+    let va = lines_view(side, op_view(t, a));
+    let vb = lines_view(side, b);
+    System {
+        side,
+        diag,
+        conjugated,
+        last,
+        a: va,
+        b: vb,
+        rows: rows(b),
+        cols: cols(b),
     }
 }
 
-// How many elements are solved.
-pub fn reached(side: Side, b: View, k: usize) -> usize
-    requires { ⌜ (b .rows ≤ limit) × (b .cols ≤ limit) ⌝ }
-    ensures { λ r. ⌜ r ≡ reach.reached side b k ⌝ }
-{
-    let total = elements(b);
-    if stops(side, b, k) {
-        elements_before(side, b, k)
-    } else {
-        total
-    }
-}
-
-// What the solve answers.
-pub fn verdict(side: Side, b: View, k: usize) -> Answer
-    requires { ⌜ (b .rows ≤ limit) × (b .cols ≤ limit) ⌝ }
-    ensures { λ r. ⌜ r ≡ reach.verdict side b k ⌝ }
-{
-    if stops(side, b, k) {
-        Answer::Singular
-    } else {
-        Answer::Done
-    }
-}
-
-// Where element (i, j) of op(A) is read.
-pub fn op_coord(t: Trans, i: usize, j: usize) -> Coord
-    ensures { λ r. ⌜ r ≡ opCoord t i j ⌝ }
-{
-    match t {
-        Trans::NoTrans => Coord { row: i, col: j },
-        Trans::Trans => Coord { row: j, col: i },
-        Trans::ConjTrans => Coord { row: j, col: i },
-    }
-}
-
-// Where unknown p of line l is in B.
-pub fn unknown_coord(side: Side, p: usize, l: usize) -> Coord
-    ensures { λ r. ⌜ r ≡ unknownCoord side p l ⌝ }
+// How many elements of its line come before element (i, j) of B, and its line.
+pub fn turn(side: Side, i: usize, j: usize) -> usize
+    ensures { λ r. ⌜ r ≡ multiply.turn side i j ⌝ }
 {
     match side {
-        Side::Left => Coord { row: p, col: l },
-        Side::Right => Coord { row: l, col: p },
+        Side::Left => i,
+        Side::Right => j,
+    }
+}
+
+pub fn line(side: Side, i: usize, j: usize) -> usize
+    ensures { λ r. ⌜ r ≡ multiply.line side i j ⌝ }
+{
+    match side {
+        Side::Left => j,
+        Side::Right => i,
     }
 }

@@ -1,38 +1,33 @@
 // The triangular products and solves of f32.
 
 ghost use mathlib.Core.Path.{_≡_};
-ghost use Prim.Native.Nat.{_*_, _<_};
+ghost use Prim.Native.Nat.{_+_, _-_, _<_};
 ghost use Rattle.number.specs.Kind.{real32};
-ghost use Rattle.slab.specs.Elem.{elem, lent};
 ghost use Rattle.view.specs.Steps.{Accepted};
+ghost use Rattle.slab.specs.Elem.{elem, lent, Shows};
+ghost use Rattle.slab.specs.Run.{plain, more, Spans};
 ghost use Rattle.slab.specs.Update.{step, row, everywhere};
-ghost use Rattle.blas.specs.Matrix.{op};
 ghost use Rattle.blas.specs.Outcome.{Gives};
-ghost use Rattle.blas.specs.Substitution as substitution;
+ghost use Rattle.blas.specs.Substitution.{less};
 ghost use Rattle.blas.specs.Trsm.{timesAlpha, sidedSolve};
 ghost use Rattle.blas.specs.Trsm;
 ghost use Rattle.blas.specs.Trsv;
 ghost use Rattle.blas.specs.Trmm;
 ghost use Rattle.blas.specs.Trmv;
-ghost use Rattle.blas.specs.Triangular.{triangular};
+ghost use Rattle.order.specs.Walk.{walk};
+ghost use Rattle.order.specs.Triangles as triangles;
+ghost use Rattle.order.specs.Triangles.{timesIf};
+ghost use Rattle.order.specs.Solve as solve;
 ghost use Rattle.order.specs.Multiply as multiply;
-ghost use Rattle.order.specs.Ready.{timesIf, InSquare, InB, Sided, SidedAt, SidedFirst, SidedRange, Pivots};
-ghost use Rattle.order.specs.Reach.{reduced, firstZero};
+ghost use Rattle.order.specs.Ready.{Pivots, Ready, ReadyAt, Sided};
 use number::Real32;
-use order::elements;
-use order::goes_into;
+use order::System;
+use order::in_order;
 use order::least_solved;
-use order::line_of;
-use order::multiplied_after;
-use order::op_coord;
-use order::order_of;
-use order::reached;
-use order::solved_after;
-use order::turn_of;
-use order::unit_at;
-use order::unknown_coord;
-use order::verdict;
-use slab::get32;
+use order::line;
+use order::system_of;
+use order::turn;
+use slab::elem32;
 use slab::put32;
 use view::Answer;
 use view::Diag;
@@ -50,48 +45,28 @@ use view::passed;
 use view::place;
 use view::rows;
 
-// Element (i, j) of op(A).
-fn read(t: Trans, s: &[f32], v: View, i: usize, j: usize) -> Real32
-    requires { ⌜ InSquare v (real32 .count (now s)) i j ⌝ }
-    ensures { λ r. ⌜ r .0 ≡ op real32 t (elem real32 (now (s .entry)) v) i j ⌝ }
+// Element (i, j) of a view: a real number is its own conjugate.
+fn at(conjugated: bool, s: &[f32], v: View, i: usize, j: usize) -> Real32
+    requires { ⌜ Shows v (real32 .count (now s)) i j ⌝ }
+    ensures { λ r. ⌜ r .0 ≡ plain real32 conjugated (now (s .entry)) v i j ⌝ }
 {
-    let at = op_coord(t, i, j);
-    get32(s, place(v, at.row, at.col))
+    elem32(s, v, i, j)
 }
 
-// Unknown p of line l.
-fn unknown(side: Side, s: &[f32], v: View, p: usize, l: usize) -> Real32
-    requires { ⌜ InB side v (real32 .count (now s)) p l ⌝ }
-    ensures { λ r. ⌜ r .0 ≡ substitution.unknown real32 side (now (s .entry)) v p l ⌝ }
-{
-    let at = unknown_coord(side, p, l);
-    get32(s, place(v, at.row, at.col))
-}
-
-// Unknown p of line l replaced.
-fn replace(side: Side, s: &mut [f32], v: View, p: usize, l: usize, x: Real32)
-    requires { ⌜ InB side v (real32 .count (now s)) p l ⌝ }
-    ensures { λ _. ⌜ now (s .exit) ≡ real32 .put (now (s .entry)) (substitution.unknownAt side v p l) (x .0) ⌝ }
-{
-    let at = unknown_coord(side, p, l);
-    put32(s, place(v, at.row, at.col), x);
-}
-
-// What unknown p, of value x, brings into the equation of unknown q.
-fn brings(side: Side, t: Trans, a: &[f32], va: View, q: usize, p: usize, x: Real32) -> Real32
-    requires { ⌜ InSquare va (real32 .count (now a)) q p ⌝ }
-    ensures { λ r. ⌜ r .0 ≡ substitution.brings real32 side t (elem real32 (now (a .entry)) va) q p (x .0) ⌝ }
+// A coefficient times an unknown, in the side's order of operands.
+fn weigh(side: Side, c: Real32, x: Real32) -> Real32
+    ensures { λ r. ⌜ r .0 ≡ triangles.weigh real32 side (c .0) (x .0) ⌝ }
 {
     match side {
-        Side::Left => read(t, a, va, q, p).mul(x),
-        Side::Right => x.mul(read(t, a, va, p, q)),
+        Side::Left => c.mul(x),
+        Side::Right => x.mul(c),
     }
 }
 
-// x less what n unknowns of line l, from `from` on, bring into the equation of unknown q.
+// x less n terms of row q by column l, from `from` on.
 fn reduce(
     side: Side,
-    t: Trans,
+    conjugated: bool,
     a: &[f32],
     va: View,
     b: &[f32],
@@ -100,146 +75,219 @@ fn reduce(
     l: usize,
     from: usize,
     n: usize,
-    x: Real32,
-) -> Real32
-    requires { ⌜ SidedRange side va (real32 .count (now a)) vb (real32 .count (now b)) q l from n ⌝ }
-    ensures { λ r. ⌜ r .0 ≡ reduced real32 side t (elem real32 (now (a .entry)) va) vb (now (b .entry)) q l from n (x .0) ⌝ }
+    x: f32,
+) -> f32
+    requires { ⌜ Spans va (real32 .count (now a)) vb (real32 .count (now b)) q l from n ⌝ }
+    ensures { λ r. ⌜ r ≡ less real32 x (λ p. triangles.weigh real32 side (plain real32 conjugated (now (a .entry)) va q p) (elem real32 (now (b .entry)) vb p l)) from n ⌝ }
 {
     let mut rest = x;
     let mut i = 0;
     while i < n {
         let p = from + i;
-        rest = rest.sub(brings(side, t, a, va, q, p, unknown(side, b, vb, p, l)));
+        rest = Real32(rest)
+            .sub(weigh(side, at(conjugated, a, va, q, p), elem32(b, vb, p, l)))
+            .0;
         i += 1;
     }
     rest
 }
 
+// x and n such terms more.
+fn add_run(
+    side: Side,
+    conjugated: bool,
+    a: &[f32],
+    va: View,
+    b: &[f32],
+    vb: View,
+    q: usize,
+    l: usize,
+    from: usize,
+    n: usize,
+    x: f32,
+) -> f32
+    requires { ⌜ Spans va (real32 .count (now a)) vb (real32 .count (now b)) q l from n ⌝ }
+    ensures { λ r. ⌜ r ≡ more real32 x (λ p. triangles.weigh real32 side (plain real32 conjugated (now (a .entry)) va q p) (elem real32 (now (b .entry)) vb p l)) from n ⌝ }
+{
+    let mut sum = x;
+    let mut i = 0;
+    while i < n {
+        let p = from + i;
+        sum = Real32(sum)
+            .add(weigh(side, at(conjugated, a, va, q, p), elem32(b, vb, p, l)))
+            .0;
+        i += 1;
+    }
+    sum
+}
+
 // x divided by pivot q.
-fn by_pivot(diag: Diag, t: Trans, a: &[f32], va: View, q: usize, x: Real32) -> Real32
-    requires { ⌜ InSquare va (real32 .count (now a)) q q ⌝ }
-    ensures { λ r. ⌜ r .0 ≡ substitution.byPivot real32 diag t (elem real32 (now (a .entry)) va) q (x .0) ⌝ }
+fn by_pivot(diag: Diag, conjugated: bool, a: &[f32], va: View, q: usize, x: f32) -> f32
+    requires { ⌜ Shows va (real32 .count (now a)) q q ⌝ }
+    ensures { λ r. ⌜ r ≡ solve.byDiag real32 diag (plain real32 conjugated (now (a .entry)) va q q) x ⌝ }
 {
     match diag {
-        Diag::NonUnit => x.div(read(t, a, va, q, q)),
+        Diag::NonUnit => Real32(x).div(at(conjugated, a, va, q, q)).0,
         Diag::Unit => x,
     }
 }
 
 fn zero_pivot(diag: Diag, a: &[f32], va: View, q: usize) -> bool
-    requires { ⌜ InSquare va (real32 .count (now a)) q q ⌝ }
-    ensures { λ r. ⌜ r ≡ substitution.zeroPivot real32 diag (elem real32 (now (a .entry)) va) q ⌝ }
+    requires { ⌜ Shows va (real32 .count (now a)) q q ⌝ }
+    ensures { λ r. ⌜ r ≡ solve.zeroDiag real32 diag (elem real32 (now (a .entry)) va q q) ⌝ }
 {
     match diag {
-        Diag::NonUnit => read(Trans::NoTrans, a, va, q, q).is_zero(),
+        Diag::NonUnit => elem32(a, va, q, q).is_zero(),
         Diag::Unit => false,
     }
 }
 
 // x times alpha, or as it is.
-fn times_if(times: bool, alpha: Real32, x: Real32) -> Real32
-    ensures { λ r. ⌜ r .0 ≡ timesIf real32 times (alpha .0) (x .0) ⌝ }
+fn times_if(times: bool, alpha: Real32, x: f32) -> f32
+    ensures { λ r. ⌜ r ≡ timesIf real32 times (alpha .0) x ⌝ }
 {
-    if times { alpha.mul(x) } else { x }
+    if times { alpha.mul(Real32(x)).0 } else { x }
 }
 
 // The unknown of line l that comes after k others, solved.
-fn solve_one(
-    side: Side,
-    uplo: UpLo,
-    t: Trans,
-    diag: Diag,
-    times: bool,
-    alpha: Real32,
-    a: &[f32],
-    va: View,
-    b: &mut [f32],
-    vb: View,
-    k: usize,
-    l: usize,
-)
-    requires { ⌜ SidedAt side va (real32 .count (now a)) vb (real32 .count (now b)) k l ⌝ }
-    ensures { λ _. ⌜ now (b .exit) ≡ substitution.solveOne real32 side uplo t diag (timesIf real32 times (alpha .0)) (elem real32 (now (a .entry)) va) vb k l (now (b .entry)) ⌝ }
+fn solve_one(sys: System, times: bool, alpha: Real32, a: &[f32], b: &mut [f32], k: usize, l: usize)
+    requires { ⌜ ReadyAt sys (real32 .count (now a)) (real32 .count (now b)) k l ⌝ }
+    ensures { λ _. ⌜ now (b .exit) ≡ solve.solveOne real32 sys (timesIf real32 times (alpha .0)) (now (a .entry)) k l (now (b .entry)) ⌝ }
 {
-    let q = solved_after(side, uplo, t, vb, k);
-    let from = least_solved(side, uplo, t, vb, k);
-    let x = times_if(times, alpha, unknown(side, b, vb, q, l));
-    let rest = reduce(side, t, a, va, b, vb, q, l, from, k, x);
-    let y = by_pivot(diag, t, a, va, q, rest);
-    replace(side, b, vb, q, l, y);
+    let side = sys.side;
+    let diag = sys.diag;
+    let m = rows(sys.b);
+    let q = in_order(sys.last, m, k);
+    let from = least_solved(sys.last, m, k);
+    let x = times_if(times, alpha, elem32(b, sys.b, q, l).0);
+    let rest = reduce(side, sys.conjugated, a, sys.a, b, sys.b, q, l, from, k, x);
+    let y = by_pivot(diag, sys.conjugated, a, sys.a, q, rest);
+    put32(b, place(sys.b, q, l), Real32(y));
 }
 
-// How many unknowns come before the first zero pivot in solving order; all where there is none.
-fn first_zero(side: Side, uplo: UpLo, t: Trans, diag: Diag, a: &[f32], va: View, vb: View) -> usize
-    requires { ⌜ Pivots side va (real32 .count (now a)) vb ⌝ }
-    ensures { λ r. ⌜ r ≡ firstZero real32 side uplo t diag (elem real32 (now (a .entry)) va) vb ⌝ }
+// Whether the pivot of the unknown that comes after k others is zero.
+fn meets_zero(sys: System, a: &[f32], k: usize) -> bool
+    requires { ⌜ Pivots sys (real32 .count (now a)) × (k < sys .b .rows) ⌝ }
+    ensures { λ r. ⌜ r ≡ solve.zeroAfter real32 sys (now (a .entry)) k ⌝ }
 {
-    let m = order_of(side, vb);
+    let diag = sys.diag;
+    let q = in_order(sys.last, rows(sys.b), k);
+    zero_pivot(diag, a, sys.a, q)
+}
+
+// The first line's unknowns, up to the first zero pivot: how many come before it.
+fn solve_first(sys: System, times: bool, alpha: Real32, a: &[f32], b: &mut [f32]) -> usize
+    requires { ⌜ Ready sys (real32 .count (now a)) (real32 .count (now b)) × (0 < sys .b .cols) ⌝ }
+    ensures { λ r. ⌜ (r ≡ solve.firstZero real32 sys (now (a .entry))) × (now (b .exit) ≡ solve.solveLine real32 sys (timesIf real32 times (alpha .0)) (now (a .entry)) 0 r (now (b .entry))) ⌝ }
+{
+    let m = rows(sys.b);
     let mut k = 0;
     while k < m {
-        if zero_pivot(diag, a, va, solved_after(side, uplo, t, vb, k)) {
+        if meets_zero(sys, a, k) {
             return k;
         }
+        solve_one(sys, times, alpha, a, b, k, 0);
         k += 1;
     }
     k
 }
 
-// The first n elements in solving order solved.
-fn solve_first(
-    side: Side,
-    uplo: UpLo,
-    t: Trans,
-    diag: Diag,
-    times: bool,
-    alpha: Real32,
-    a: &[f32],
-    va: View,
-    b: &mut [f32],
-    vb: View,
-    n: usize,
-)
-    requires { ⌜ SidedFirst side va (real32 .count (now a)) vb (real32 .count (now b)) n ⌝ }
-    ensures { λ _. ⌜ now (b .exit) ≡ substitution.solved real32 side uplo t diag (timesIf real32 times (alpha .0)) (elem real32 (now (a .entry)) va) vb n (now (b .entry)) ⌝ }
+// Every unknown of line l.
+fn solve_line(sys: System, times: bool, alpha: Real32, a: &[f32], b: &mut [f32], l: usize)
+    requires { ⌜ Ready sys (real32 .count (now a)) (real32 .count (now b)) × (l < sys .b .cols) ⌝ }
+    ensures { λ _. ⌜ now (b .exit) ≡ solve.solveLine real32 sys (timesIf real32 times (alpha .0)) (now (a .entry)) l (sys .b .rows) (now (b .entry)) ⌝ }
 {
-    let mut done = 0;
-    while done < n {
-        let k = turn_of(side, vb, done);
-        let l = line_of(side, vb, done);
-        solve_one(side, uplo, t, diag, times, alpha, a, va, b, vb, k, l);
-        done += 1;
+    let n = rows(sys.b);
+    let mut k = 0;
+    while k < n {
+        solve_one(sys, times, alpha, a, b, k, l);
+        k += 1;
     }
 }
 
-// Every element in solving order solved, up to the first zero pivot.
-fn solve(
-    side: Side,
-    uplo: UpLo,
-    t: Trans,
-    diag: Diag,
-    times: bool,
-    alpha: Real32,
-    a: &[f32],
-    va: View,
-    b: &mut [f32],
-    vb: View,
-) -> Answer
-    requires { ⌜ Sided side va (real32 .count (now a)) vb (real32 .count (now b)) ⌝ }
-    ensures { λ r. ⌜ Gives real32 (substitution.substituted real32 side uplo t diag (timesIf real32 times (alpha .0)) (elem real32 (now (a .entry)) va) vb (now (b .entry))) r (now (b .exit)) ⌝ }
+// The lines after the first.
+fn solve_others(sys: System, times: bool, alpha: Real32, a: &[f32], b: &mut [f32])
+    requires { ⌜ Ready sys (real32 .count (now a)) (real32 .count (now b)) × (0 < sys .b .cols) ⌝ }
+    ensures { λ _. ⌜ now (b .exit) ≡ walk (sys .b .cols - 1) (λ l. solve.solveLine real32 sys (timesIf real32 times (alpha .0)) (now (a .entry)) (l + 1) (sys .b .rows)) (now (b .entry)) ⌝ }
 {
-    let k = first_zero(side, uplo, t, diag, a, va, vb);
-    let n = reached(side, vb, k);
-    solve_first(side, uplo, t, diag, times, alpha, a, va, b, vb, n);
-    verdict(side, vb, k)
+    let n = cols(sys.b) - 1;
+    let mut l = 0;
+    while l < n {
+        solve_line(sys, times, alpha, a, b, l + 1);
+        l += 1;
+    }
+}
+
+// The unknown that comes after k others, in every line.
+fn solve_across(sys: System, times: bool, alpha: Real32, a: &[f32], b: &mut [f32], k: usize)
+    requires { ⌜ Ready sys (real32 .count (now a)) (real32 .count (now b)) × (k < sys .b .rows) ⌝ }
+    ensures { λ _. ⌜ now (b .exit) ≡ solve.solveAcross real32 sys (timesIf real32 times (alpha .0)) (now (a .entry)) k (now (b .entry)) ⌝ }
+{
+    let n = cols(sys.b);
+    let mut l = 0;
+    while l < n {
+        solve_one(sys, times, alpha, a, b, k, l);
+        l += 1;
+    }
+}
+
+// Unknown after unknown, each in every line, up to the first zero pivot: how many come before it.
+fn solve_unknowns(sys: System, times: bool, alpha: Real32, a: &[f32], b: &mut [f32]) -> usize
+    requires { ⌜ Ready sys (real32 .count (now a)) (real32 .count (now b)) ⌝ }
+    ensures { λ r. ⌜ (r ≡ solve.firstZero real32 sys (now (a .entry))) × (now (b .exit) ≡ walk r (solve.solveAcross real32 sys (timesIf real32 times (alpha .0)) (now (a .entry))) (now (b .entry))) ⌝ }
+{
+    let order = rows(sys.b);
+    let mut k = 0;
+    while k < order {
+        if meets_zero(sys, a, k) {
+            return k;
+        }
+        solve_across(sys, times, alpha, a, b, k);
+        k += 1;
+    }
+    k
+}
+
+// Line after line.
+fn solve_left(sys: System, times: bool, alpha: Real32, a: &[f32], b: &mut [f32]) -> Answer
+    requires { ⌜ Ready sys (real32 .count (now a)) (real32 .count (now b)) ⌝ }
+    ensures { λ r. ⌜ solve.SolvedLeft real32 sys (timesIf real32 times (alpha .0)) (now (a .entry)) (now (b .entry)) r (now (b .exit)) ⌝ }
+{
+    if 0 < cols(sys.b) {
+        if solve_first(sys, times, alpha, a, b) < rows(sys.b) {
+            Answer::Singular
+        } else {
+            solve_others(sys, times, alpha, a, b);
+            Answer::Done
+        }
+    } else {
+        Answer::Done
+    }
+}
+
+// Unknown after unknown.
+fn solve_right(sys: System, times: bool, alpha: Real32, a: &[f32], b: &mut [f32]) -> Answer
+    requires { ⌜ Ready sys (real32 .count (now a)) (real32 .count (now b)) ⌝ }
+    ensures { λ r. ⌜ solve.SolvedRight real32 sys (timesIf real32 times (alpha .0)) (now (a .entry)) (now (b .entry)) r (now (b .exit)) ⌝ }
+{
+    if 0 < cols(sys.b) {
+        if solve_unknowns(sys, times, alpha, a, b) < rows(sys.b) {
+            Answer::Singular
+        } else {
+            Answer::Done
+        }
+    } else {
+        Answer::Done
+    }
 }
 
 // Element (i, j) of B times alpha.
 fn scale_one(alpha: Real32, b: &mut [f32], vb: View, i: usize, j: usize)
-    requires { ⌜ InB Side.Left vb (real32 .count (now b)) i j ⌝ }
+    requires { ⌜ Shows vb (real32 .count (now b)) i j ⌝ }
     ensures { λ _. ⌜ now (b .exit) ≡ step real32 vb everywhere (λ i j x. real32 .mul (alpha .0) x) i j (now (b .entry)) ⌝ }
 {
-    let x = unknown(Side::Left, b, vb, i, j);
-    replace(Side::Left, b, vb, i, j, alpha.mul(x));
+    let x = elem32(b, vb, i, j);
+    put32(b, place(vb, i, j), alpha.mul(x));
 }
 
 // Row i of B times alpha.
@@ -284,144 +332,109 @@ fn sided(
     ensures { λ r. ⌜ Gives real32 (sidedSolve real32 side uplo t diag (alpha .0) (elem real32 (now (a .entry)) va) vb (now (b .entry))) r (now (b .exit)) ⌝ }
 {
     match side {
-        Side::Left => solve(Side::Left, uplo, t, diag, true, alpha, a, va, b, vb),
+        Side::Left => {
+            let sys = system_of(Side::Left, uplo, t, diag, va, vb);
+            solve_left(sys, true, alpha, a, b)
+        }
         Side::Right => {
             scale(alpha, b, vb);
-            solve(Side::Right, uplo, t, diag, false, alpha, a, va, b, vb)
+            let sys = system_of(Side::Right, uplo, t, diag, va, vb);
+            solve_right(sys, false, alpha, a, b)
         }
     }
 }
 
-// Element (i, j) of op(A)'s triangle.
-fn coefficient(diag: Diag, t: Trans, s: &[f32], v: View, i: usize, j: usize) -> Real32
-    requires { ⌜ InSquare v (real32 .count (now s)) i j ⌝ }
-    ensures { λ r. ⌜ r .0 ≡ triangular real32 diag t (elem real32 (now (s .entry)) v) i j ⌝ }
+// What the diagonal weighs.
+fn own_weight(diag: Diag, conjugated: bool, a: &[f32], va: View, q: usize) -> Real32
+    requires { ⌜ Shows va (real32 .count (now a)) q q ⌝ }
+    ensures { λ r. ⌜ r .0 ≡ multiply.ownDiag real32 diag (plain real32 conjugated (now (a .entry)) va q q) ⌝ }
 {
-    if unit_at(diag, i, j) {
-        Real32::ONE
+    match diag {
+        Diag::NonUnit => at(conjugated, a, va, q, q),
+        Diag::Unit => Real32::ONE,
+    }
+}
+
+// Element q of line l of the product.
+fn line_sum(sys: System, a: &[f32], b: &[f32], q: usize, l: usize) -> f32
+    requires { ⌜ ReadyAt sys (real32 .count (now a)) (real32 .count (now b)) q l ⌝ }
+    ensures { λ r. ⌜ r ≡ multiply.lineSum real32 sys (now (a .entry)) (now (b .entry)) q l ⌝ }
+{
+    let side = sys.side;
+    let diag = sys.diag;
+    let c = own_weight(diag, sys.conjugated, a, sys.a, q);
+    let own = weigh(side, c, elem32(b, sys.b, q, l));
+    if sys.last {
+        let n = rows(sys.b) - 1 - q;
+        let x = Real32::ZERO.add(own).0;
+        add_run(side, sys.conjugated, a, sys.a, b, sys.b, q, l, q + 1, n, x)
     } else {
-        read(t, s, v, i, j)
+        let x = Real32::ZERO.0;
+        let sum = add_run(side, sys.conjugated, a, sys.a, b, sys.b, q, l, 0, q, x);
+        Real32(sum).add(own).0
     }
-}
-
-// What element p of a line, of value x, brings into element q of it.
-fn weighs(
-    side: Side,
-    diag: Diag,
-    t: Trans,
-    a: &[f32],
-    va: View,
-    q: usize,
-    p: usize,
-    x: Real32,
-) -> Real32
-    requires { ⌜ InSquare va (real32 .count (now a)) q p ⌝ }
-    ensures { λ r. ⌜ r .0 ≡ multiply.weighs real32 side diag t (elem real32 (now (a .entry)) va) q p (x .0) ⌝ }
-{
-    match side {
-        Side::Left => coefficient(diag, t, a, va, q, p).mul(x),
-        Side::Right => x.mul(coefficient(diag, t, a, va, p, q)),
-    }
-}
-
-// The sum with what element p of line l brings into element q, where it goes into it.
-fn add_term(
-    side: Side,
-    uplo: UpLo,
-    t: Trans,
-    diag: Diag,
-    a: &[f32],
-    va: View,
-    b: &[f32],
-    vb: View,
-    q: usize,
-    l: usize,
-    p: usize,
-    sum: Real32,
-) -> Real32
-    requires { ⌜ SidedRange side va (real32 .count (now a)) vb (real32 .count (now b)) q l p 1 ⌝ }
-    ensures { λ r. ⌜ r .0 ≡ multiply.addTerm real32 side uplo t diag (elem real32 (now (a .entry)) va) vb (now (b .entry)) q l p (sum .0) ⌝ }
-{
-    if goes_into(side, uplo, t, q, p) {
-        sum.add(weighs(side, diag, t, a, va, q, p, unknown(side, b, vb, p, l)))
-    } else {
-        sum
-    }
-}
-
-// Element q of line l of the product, with n elements to a line.
-fn line_dot(
-    side: Side,
-    uplo: UpLo,
-    t: Trans,
-    diag: Diag,
-    a: &[f32],
-    va: View,
-    b: &[f32],
-    vb: View,
-    n: usize,
-    q: usize,
-    l: usize,
-) -> Real32
-    requires { ⌜ SidedRange side va (real32 .count (now a)) vb (real32 .count (now b)) q l 0 n ⌝ }
-    ensures { λ r. ⌜ r .0 ≡ multiply.lineDot real32 side uplo t diag (elem real32 (now (a .entry)) va) vb n (now (b .entry)) q l ⌝ }
-{
-    let mut sum = Real32::ZERO;
-    let mut p = 0;
-    while p < n {
-        sum = add_term(side, uplo, t, diag, a, va, b, vb, q, l, p, sum);
-        p += 1;
-    }
-    sum
 }
 
 // The element of line l that comes after k others, multiplied.
 fn multiply_one(
-    side: Side,
-    uplo: UpLo,
-    t: Trans,
-    diag: Diag,
+    sys: System,
     times: bool,
     alpha: Real32,
     a: &[f32],
-    va: View,
     b: &mut [f32],
-    vb: View,
     k: usize,
     l: usize,
 )
-    requires { ⌜ SidedAt side va (real32 .count (now a)) vb (real32 .count (now b)) k l ⌝ }
-    ensures { λ _. ⌜ now (b .exit) ≡ multiply.multiplyOne real32 side uplo t diag (timesIf real32 times (alpha .0)) (elem real32 (now (a .entry)) va) vb k l (now (b .entry)) ⌝ }
+    requires { ⌜ ReadyAt sys (real32 .count (now a)) (real32 .count (now b)) k l ⌝ }
+    ensures { λ _. ⌜ now (b .exit) ≡ multiply.multiplyOne real32 sys (now (a .entry)) (timesIf real32 times (alpha .0)) k l (now (b .entry)) ⌝ }
 {
-    let q = multiplied_after(side, uplo, t, vb, k);
-    let m = order_of(side, vb);
-    let sum = line_dot(side, uplo, t, diag, a, va, b, vb, m, q, l);
-    replace(side, b, vb, q, l, times_if(times, alpha, sum));
+    let q = in_order(!sys.last, rows(sys.b), k);
+    let x = times_if(times, alpha, line_sum(sys, a, b, q, l));
+    put32(b, place(sys.b, q, l), Real32(x));
 }
 
-// Every element multiplied, in the order that reads no written element.
-fn multiply(
-    side: Side,
-    uplo: UpLo,
-    t: Trans,
-    diag: Diag,
+// Element (i, j) of B multiplied.
+fn multiply_at(
+    sys: System,
     times: bool,
     alpha: Real32,
     a: &[f32],
-    va: View,
     b: &mut [f32],
-    vb: View,
+    i: usize,
+    j: usize,
 )
-    requires { ⌜ Sided side va (real32 .count (now a)) vb (real32 .count (now b)) ⌝ }
-    ensures { λ _. ⌜ now (b .exit) ≡ multiply.multiplied real32 side uplo t diag (timesIf real32 times (alpha .0)) (elem real32 (now (a .entry)) va) vb (vb .rows * vb .cols) (now (b .entry)) ⌝ }
+    requires { ⌜ Ready sys (real32 .count (now a)) (real32 .count (now b)) × ((i < sys .rows) × (j < sys .cols)) ⌝ }
+    ensures { λ _. ⌜ now (b .exit) ≡ multiply.multiplyOne real32 sys (now (a .entry)) (timesIf real32 times (alpha .0)) (multiply.turn (sys .side) i j) (multiply.line (sys .side) i j) (now (b .entry)) ⌝ }
 {
-    let total = elements(vb);
-    let mut n = 0;
-    while n < total {
-        let k = turn_of(side, vb, n);
-        let l = line_of(side, vb, n);
-        multiply_one(side, uplo, t, diag, times, alpha, a, va, b, vb, k, l);
-        n += 1;
+    let side = sys.side;
+    let k = turn(side, i, j);
+    let l = line(side, i, j);
+    multiply_one(sys, times, alpha, a, b, k, l);
+}
+
+// Column j of B.
+fn multiply_column(sys: System, times: bool, alpha: Real32, a: &[f32], b: &mut [f32], j: usize)
+    requires { ⌜ Ready sys (real32 .count (now a)) (real32 .count (now b)) × (j < sys .cols) ⌝ }
+    ensures { λ _. ⌜ now (b .exit) ≡ multiply.multiplyColumn real32 sys (now (a .entry)) (timesIf real32 times (alpha .0)) j (sys .rows) (now (b .entry)) ⌝ }
+{
+    let m = sys.rows;
+    let mut i = 0;
+    while i < m {
+        multiply_at(sys, times, alpha, a, b, i, j);
+        i += 1;
+    }
+}
+
+// All of B, in the order that reads no written element.
+fn multiply(sys: System, times: bool, alpha: Real32, a: &[f32], b: &mut [f32])
+    requires { ⌜ Ready sys (real32 .count (now a)) (real32 .count (now b)) ⌝ }
+    ensures { λ _. ⌜ now (b .exit) ≡ multiply.multiplyAll real32 sys (now (a .entry)) (timesIf real32 times (alpha .0)) (now (b .entry)) ⌝ }
+{
+    let n = sys.cols;
+    let mut j = 0;
+    while j < n {
+        multiply_column(sys, times, alpha, a, b, j);
+        j += 1;
     }
 }
 
@@ -440,18 +453,8 @@ pub fn trmv(
     let answer = check_trmv(va, a.len(), vx, x.len());
     if passed(answer) {
         let v = column(vx);
-        multiply(
-            Side::Left,
-            uplo,
-            trans,
-            diag,
-            false,
-            Real32::ONE,
-            a,
-            va,
-            x,
-            v,
-        );
+        let sys = system_of(Side::Left, uplo, trans, diag, va, v);
+        multiply(sys, false, Real32::ONE, a, x);
     }
     answer
 }
@@ -472,7 +475,8 @@ pub fn trmm(
 {
     let answer = check_trmm(side, va, a.len(), vb, b.len());
     if passed(answer) {
-        multiply(side, uplo, trans, diag, true, alpha, a, va, b, vb);
+        let sys = system_of(side, uplo, trans, diag, va, vb);
+        multiply(sys, true, alpha, a, b);
     }
     answer
 }
@@ -492,18 +496,8 @@ pub fn trsv(
     let answer = check_trsv(va, a.len(), vx, x.len());
     if passed(answer) {
         let v = column(vx);
-        return solve(
-            Side::Left,
-            uplo,
-            trans,
-            diag,
-            false,
-            Real32::ONE,
-            a,
-            va,
-            x,
-            v,
-        );
+        let sys = system_of(Side::Left, uplo, trans, diag, va, v);
+        return solve_left(sys, false, Real32::ONE, a, x);
     }
     answer
 }

@@ -1,27 +1,22 @@
-use Rattle.view.specs.Checks.{orderOf}
-use mathlib.Core.Bool.{Bool}
-use mathlib.Core.Path.{refl, sym, ap}
-use Rattle.blas.specs.Substitution.{leastSolved}
-use Rattle.order.proofs.Solves.{least-after-is}
+use native.Mathlib.Omega.{arith}
+use mathlib.Core.Path.{refl}
 use borrow.Author.Needs.{needs}
 use Rattle.order.proofs.least_solved.Statement.{statement}
 use Rattle.order.proofs.least_solved.Tie as tie
+use Rattle.order.proofs.least_solved.Reads as reads
+use Rattle.order.proofs.least_solved.Lts as lts
 
-last-first-requires : tie.Need-last-first-requires
-last-first-requires c κs = search needs
-
-order-of-requires : tie.Need-order-of-requires
-order-of-requires c κs = search needs
-
+-- src/lib.rt:87:15
 sub-result : tie.Need-sub-result
 sub-result c = search needs
 
+-- src/lib.rt:83:1
 returns : tie.Need-returns
-returns c = least-after-is _ _ _ _ _ (c .before .before .before .pre) (c .before .before .last-first .result) _ _ (c .order-of .ensures) (c .before .before .last-first .ensures) (sym (ap (λ (b : Bool). leastSolved b (c .order-of .result) (c .before .before .before .args .k)) (c .before .if1 .taken)))
+returns c = (rw (c .if1 .taken) (omega arith), omega arith)
 
+-- src/lib.rt:83:1
 returns-2 : tie.Need-returns-2
-returns-2 c = least-after-is _ _ _ _ _ (c .before .before .pre) (c .before .last-first .result) _ _ refl (c .before .last-first .ensures) (sym (ap (λ (b : Bool). leastSolved b (orderOf (c .before .before .args .side) (c .before .before .args .b)) (c .before .before .args .k)) (c .if1 .left)))
+returns-2 c = (rw (c .if1 .left) refl, omega arith)
 
 pub least-solved-spec : {M : Type 1} → statement M
-least-solved-spec =
-    tie.close (tie.spec last-first-requires order-of-requires sub-result returns returns-2)
+least-solved-spec = tie.close (tie.spec sub-result returns returns-2)

@@ -1,35 +1,38 @@
-use Rattle.order.specs.Reach.{reduced}
-use Rattle.order.proofs.Parts.{reduced-start, reduced-next, reduced-end}
 use Prim.Native.Nat.{_≤_, _-_}
+use mathlib.Core.Path.{_≡_, sym, _∙_}
 use native.Mathlib.Omega.{arith}
-use mathlib.Core.Path.{_≡_}
-use borrow.Author.Needs.{needs}
 use Rattle.number.specs.Kind.{complex}
 use Rattle.slab.specs.Elem.{elem}
-use Rattle.order.proofs.Places.{in-a, in-b, order-le}
+use Rattle.slab.specs.Run.{plain}
+use Rattle.blas.specs.Substitution.{less}
+use Rattle.blas.proofs.SubstitutionLaws.{less-start, less-next, less-end}
+use Rattle.order.specs.Triangles.{weigh}
 use Rattle.triangle.proofs.complex.reduce.Statement.{statement}
 use Rattle.triangle.proofs.complex.reduce.Tie as tie
 
 abbrev Inv-loop : tie.InvT-loop
-Inv-loop side t a va b vb q l from n rest₀ i₀ rest i = (i ≤ n) × (rest ≡ reduced complex side t (elem complex a va) vb b q l from i rest₀)
+Inv-loop side conjugated a va b vb q l from n rest₀ i₀ rest i = (i ≤ n) × (rest ≡ less complex rest₀ (λ p. weigh complex side (plain complex conjugated a va q p) (elem complex b vb p l)) from i)
 
 abbrev μ-loop : tie.MeasureT-loop
-μ-loop side t a va b vb q l from n rest₀ i₀ rest i = n - i
+μ-loop side conjugated a va b vb q l from n rest₀ i₀ rest i = n - i
 
 loop-holds : tie.Need-loop-holds Inv-loop μ-loop
-loop-holds c = (omega arith, reduced-start complex _ _ _ _ _ _ _ _ _)
+loop-holds c = (omega arith, sym (less-start complex _ _ _))
 
 add-p : tie.Need-add-p Inv-loop μ-loop
-add-p c = omega (arith, order-le _ _ _ _ _ (c .before .before .before .before .pre .at .sided), c .before .before .before .before .pre .range)
+add-p c = let h = c .before .before .before .before .pre .left (c .before .loop .i) (omega arith) in omega (arith, h .col, h .fits .cols-le)
 
-unknown-requires : tie.Need-unknown-requires Inv-loop μ-loop
-unknown-requires c κs = in-b _ _ _ _ _ (c .before .before .before .before .pre .at .sided) _ _ (omega (arith, c .before .before .before .before .pre .range)) (c .before .before .before .before .pre .at .line)
+at-requires : tie.Need-at-requires Inv-loop μ-loop
+at-requires c κs = c .before .before .before .before .pre .left _ (omega arith)
 
-brings-requires : tie.Need-brings-requires Inv-loop μ-loop
-brings-requires c κs = in-a _ _ _ _ _ (c .before .before .before .before .before .pre .at .sided) _ _ (c .before .before .before .before .before .pre .at .unknown) (omega (arith, c .before .before .before .before .before .pre .range))
+elem-complex-requires : tie.Need-elem-complex-requires Inv-loop μ-loop
+elem-complex-requires c κs = c .before .before .before .before .before .pre .right _ (omega arith)
+
+weigh-requires : tie.Need-weigh-requires Inv-loop μ-loop
+weigh-requires c κs = tt
 
 sub-requires : tie.Need-sub-requires Inv-loop μ-loop
-sub-requires c κs = search needs
+sub-requires c κs = tt
 
 add-i : tie.Need-add-i Inv-loop μ-loop
 add-i c = omega arith
@@ -38,10 +41,12 @@ loop-less : tie.Need-loop-less Inv-loop μ-loop
 loop-less c = omega arith
 
 loop-again : tie.Need-loop-again Inv-loop μ-loop
-loop-again c = (omega arith, reduced-next complex _ _ _ _ _ _ _ _ _ _ _ _ _ _ (c .before .before .before .before .loop .inv .1) (c .before .before .unknown .ensures) (c .before .brings .ensures) (c .sub .ensures))
+loop-again c =
+    let p = c .before .before .before .before .before .before .before .before .args in
+    (omega arith, less-next complex _ _ _ _ _ _ _ (c .before .before .before .before .before .loop .inv .1) (c .before .weigh .ensures ∙ (λ j. weigh complex (p .side) (c .before .before .before .at .ensures j) (c .before .before .elem-complex .ensures j))) (c .sub .ensures))
 
 returns : tie.Need-returns Inv-loop μ-loop
-returns c = reduced-end complex _ _ _ _ _ _ _ _ _ _ _ _ (c .before .loop .inv .0) (c .loop-test .left) (c .before .loop .inv .1)
+returns c = less-end complex _ _ _ _ _ _ (c .before .loop .inv .0) (omega arith) (c .before .loop .inv .1)
 
 pub reduce-spec : {M : Type 1} → statement M
 reduce-spec =
@@ -51,8 +56,9 @@ reduce-spec =
     μ-loop
     loop-holds
     add-p
-    unknown-requires
-    brings-requires
+    at-requires
+    elem-complex-requires
+    weigh-requires
     sub-requires
     add-i
     loop-less

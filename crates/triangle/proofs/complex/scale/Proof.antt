@@ -1,11 +1,11 @@
-use mathlib.Core.Path.{ap, _≡_, refl, _∙_}
-use Prim.Native.Nat.{ℕ, _/_, _≤_, _-_}
 use Rattle.slab.proofs.LoopLaws.{rows-next, rows-last}
 use Rattle.slab.specs.Update.{rows as rowsOf, everywhere}
 use Rattle.number.specs.Kind.{complex}
 use borrow.Author.Needs.{needs}
 use lib.ListN.{length}
-use Rattle.order.proofs.Places.{row-in}
+use Prim.Native.Nat.{_≤_, _-_, ℕ, _/_}
+use mathlib.Core.Path.{_≡_, refl, _∙_, ap}
+use Rattle.order.proofs.Systems.{row-in}
 use native.Mathlib.Omega.{arith}
 use Rattle.triangle.proofs.complex.scale.Statement.{statement}
 use Rattle.triangle.proofs.complex.scale.Tie as tie

@@ -1,11 +1,11 @@
-use mathlib.Core.Path.{ap, _≡_, refl, _∙_}
-use Prim.Native.Nat.{ℕ, _/_, _≤_, _-_}
 use Rattle.slab.proofs.LoopLaws.{row-next, row-last}
 use Rattle.slab.specs.Update.{row as rowOf, everywhere}
-use Rattle.order.proofs.Places.{in-row}
+use Rattle.order.proofs.Systems.{in-row}
 use Rattle.number.specs.Kind.{complex}
 use borrow.Author.Needs.{needs}
 use lib.ListN.{length}
+use Prim.Native.Nat.{_≤_, _-_, ℕ, _/_}
+use mathlib.Core.Path.{_≡_, refl, _∙_, ap}
 use native.Mathlib.Omega.{arith}
 use Rattle.triangle.proofs.complex.scale_row.Statement.{statement}
 use Rattle.triangle.proofs.complex.scale_row.Tie as tie

@@ -1,48 +1,55 @@
-use Prim.Native.Nat.{ℕ, _≤_, _-_, _/_}
-use Rattle.blas.proofs.SubstitutionLaws.{solved-start, solved-next, solved-end}
-use Rattle.blas.specs.Substitution.{solved}
-use Rattle.number.specs.Kind.{complex}
-use Rattle.order.proofs.Places.{turn-at}
-use Rattle.order.specs.Ready.{timesIf}
-use Rattle.slab.specs.Elem.{elem}
-use lib.ListN.{length}
-use mathlib.Core.Path.{_≡_, refl, ap, sym, _∙_}
+use Prim.Native.Nat.{_≤_, _-_, ℕ, _/_}
+use mathlib.Core.Path.{_≡_, refl, _∙_, ap}
 use native.Mathlib.Omega.{arith}
+use lib.ListN.{length}
+use Rattle.number.specs.Kind.{complex}
+use Rattle.order.specs.Walk.{walk}
+use Rattle.order.specs.Triangles.{timesIf}
+use Rattle.order.specs.Solve.{solveOne, zeroAfter}
+use Rattle.order.proofs.WalkLaws.{walk-start, walk-next}
+use Rattle.order.proofs.Systems.{ready-for}
+use Rattle.order.proofs.Solves.{Clear, clear-start, clear-next, first-found, first-nowhere}
 use Rattle.triangle.proofs.complex.solve_first.Statement.{statement}
 use Rattle.triangle.proofs.complex.solve_first.Tie as tie
 
 abbrev Inv-loop : tie.InvT-loop
-Inv-loop side uplo t diag times alpha a va b₀ vb n done₀ b done = (done ≤ n) × (length b ≡ length b₀) × (b ≡ solved complex side uplo t diag (timesIf complex times alpha) (elem complex a va) vb done b₀)
+Inv-loop sys times alpha a b₀ m k₀ b k = (k ≤ m) × (length b ≡ length b₀) × Clear (zeroAfter complex sys a) k × (b ≡ walk k (λ i. solveOne complex sys (timesIf complex times alpha) a i 0) b₀)
 
 abbrev μ-loop : tie.MeasureT-loop
-μ-loop side uplo t diag times alpha a va b₀ vb n done₀ b done = n - done
+μ-loop sys times alpha a b₀ m k₀ b k = m - k
+
+rows-requires : tie.Need-rows-requires Inv-loop μ-loop
+rows-requires c κs = tt
 
 loop-holds : tie.Need-loop-holds Inv-loop μ-loop
-loop-holds c = (omega arith, refl, sym (solved-start complex _ _ _ _ _ _ _ _))
+loop-holds c = (omega arith, refl, clear-start _, walk-start _ _)
 
-turn-of-requires : tie.Need-turn-of-requires Inv-loop μ-loop
-turn-of-requires c κs = omega (arith, c .before .before .before .before .pre .within)
+meets-zero-requires : tie.Need-meets-zero-requires Inv-loop μ-loop
+meets-zero-requires c κs = (c .before .before .before .before .before .pre .0 .pivots, omega (arith, c .before .before .rows .ensures))
 
-line-of-requires : tie.Need-line-of-requires Inv-loop μ-loop
-line-of-requires c κs = omega (arith, c .before .before .before .before .before .pre .within)
+same-length : tie.Need-same-length Inv-loop μ-loop
+same-length c = c .before .before .before .loop .inv .1
+
+returns : tie.Need-returns Inv-loop μ-loop
+returns c = (first-found _ _ _ _ _ (c .before .before .before .before .rows .ensures) (omega arith) (c .before .before .before .loop .inv .2) (c .before .meets-zero .ensures) (c .if1 .taken), c .before .before .before .loop .inv .3)
 
 solve-one-requires : tie.Need-solve-one-requires Inv-loop μ-loop
-solve-one-requires c κs = turn-at _ _ _ _ _ (c .before .before .before .before .before .before .before .pre .sided) _ _ _ _ (omega (arith, c .before .before .before .before .before .before .before .pre .within)) (c .before .before .turn-of .ensures) (c .before .line-of .ensures) (ap (λ (n : ℕ). n / 2) (c .before .before .before .before .loop .inv .1))
+solve-one-requires c κs = ready-for _ _ _ _ _ _ _ _ (c .before .before .before .before .before .before .before .before .pre .0) (ap (λ (n : ℕ). n / 2) (c .before .before .before .before .loop .inv .1)) (c .before .before .before .before .before .rows .ensures) refl (omega arith) (c .before .before .before .before .before .before .before .before .pre .1)
 
-add-done : tie.Need-add-done Inv-loop μ-loop
-add-done c = omega arith
+add-k : tie.Need-add-k Inv-loop μ-loop
+add-k c = omega arith
 
 loop-less : tie.Need-loop-less Inv-loop μ-loop
 loop-less c = omega arith
 
 loop-again : tie.Need-loop-again Inv-loop μ-loop
-loop-again c = (omega arith, c .before .before .solve-one .kept .1 .1 .1 .1 .1 .1 .1 .1 .0 ∙ c .before .before .before .before .before .before .before .loop .inv .1, solved-next complex _ _ _ _ _ _ _ _ _ _ _ _ _ (c .before .before .before .before .before .before .before .loop .inv .2) (c .before .before .before .before .before .turn-of .ensures) (c .before .before .before .before .line-of .ensures) (c .before .before .solve-one .ensures))
+loop-again c = (omega arith, c .before .before .solve-one .kept .1 .1 .1 .1 .0 ∙ c .before .before .before .before .before .before .before .loop .inv .1, clear-next _ _ _ (c .before .before .before .before .before .before .before .loop .inv .2) (c .before .before .before .before .before .meets-zero .ensures) (c .before .before .before .before .if1 .left), walk-next _ _ _ _ _ (c .before .before .before .before .before .before .before .loop .inv .3) (c .before .before .solve-one .ensures))
 
-same-length : tie.Need-same-length Inv-loop μ-loop
-same-length c = c .before .loop .inv .1
+same-length-2 : tie.Need-same-length-2 Inv-loop μ-loop
+same-length-2 c = c .before .loop .inv .1
 
-returns : tie.Need-returns Inv-loop μ-loop
-returns c = solved-end complex _ _ _ _ _ _ _ _ _ _ _ (c .before .loop .inv .0) (omega arith) (c .before .loop .inv .2)
+returns-2 : tie.Need-returns-2 Inv-loop μ-loop
+returns-2 c = (first-nowhere _ _ _ _ (c .before .before .rows .ensures) (c .before .loop .inv .0) (omega arith) (c .before .loop .inv .2), c .before .loop .inv .3)
 
 pub solve-first-spec : {M : Type 1} → statement M
 solve-first-spec =
@@ -50,12 +57,14 @@ solve-first-spec =
     (tie.spec
     Inv-loop
     μ-loop
+    rows-requires
     loop-holds
-    turn-of-requires
-    line-of-requires
+    meets-zero-requires
+    same-length
+    returns
     solve-one-requires
-    add-done
+    add-k
     loop-less
     loop-again
-    same-length
-    returns)
+    same-length-2
+    returns-2)

@@ -1,5 +1,10 @@
+use mathlib.Core.Path.{refl}
 use Rattle.number.specs.Kind.{complex}
-use Rattle.order.proofs.Kernels.{vector-passed, vector-runs, trsv-refused, trsv-done}
+use Rattle.view.specs.declared.Side.the-variants.{Left}
+use Rattle.order.proofs.Systems.{ready-made}
+use Rattle.order.proofs.Solves.{left-gives}
+use Rattle.order.proofs.Judged.{vector-passed, vector-runs}
+use Rattle.order.proofs.SolveKernels.{trsv-refused, trsv-done}
 use borrow.Author.Needs.{needs}
 use Rattle.triangle.proofs.complex.trsv.Statement.{statement}
 use Rattle.triangle.proofs.complex.trsv.Tie as tie
@@ -13,14 +18,17 @@ passed-requires c κs = search needs
 column-requires : tie.Need-column-requires
 column-requires c κs = vector-passed _ _ _ _ _ _ (c .before .before .check-trsv .ensures) (c .before .passed .ensures) (c .if1 .taken)
 
-solve-requires : tie.Need-solve-requires
-solve-requires c κs = vector-runs _ _ _ _ _ _ (c .before .before .before .before .check-trsv .ensures) (c .before .before .before .passed .ensures) (c .before .before .if1 .taken) _ (c .before .column .ensures)
+system-of-requires : tie.Need-system-of-requires
+system-of-requires c κs = search needs
+
+solve-left-requires : tie.Need-solve-left-requires
+solve-left-requires c κs = ready-made (c .before .before .before .before .before .before .before .before .args .uplo) (c .before .before .before .before .before .before .before .before .args .trans) (c .before .before .before .before .before .before .before .before .args .diag) _ _ _ _ Left _ _ (vector-runs _ _ _ _ _ _ (c .before .before .before .before .before .check-trsv .ensures) (c .before .before .before .before .passed .ensures) (c .before .before .before .if1 .taken) _ (c .before .before .column .ensures)) (c .before .system-of .ensures) refl
 
 same-length : tie.Need-same-length
 same-length c = search needs
 
 returns : tie.Need-returns
-returns c = trsv-done complex _ _ _ _ _ _ _ (c .before .before .before .before .before .before .before .check-trsv .ensures) (c .before .before .before .before .before .before .passed .ensures) (c .before .before .before .before .before .if1 .taken) _ (c .before .before .before .before .column .ensures) _ _ (c .before .before .solve .ensures)
+returns c = trsv-done complex _ _ _ _ _ _ _ (c .before .before .before .before .before .before .before .before .check-trsv .ensures) (c .before .before .before .before .before .before .before .passed .ensures) (c .before .before .before .before .before .before .if1 .taken) _ (c .before .before .before .before .before .column .ensures) _ _ (left-gives complex (c .before .before .before .before .before .before .before .before .before .before .before .args .uplo) (c .before .before .before .before .before .before .before .before .before .before .before .args .trans) (c .before .before .before .before .before .before .before .before .before .before .before .args .diag) _ _ _ _ _ _ _ _ (c .before .before .before .before .system-of .ensures) (c .before .before .solve-left .ensures))
 
 returns-2 : tie.Need-returns-2
 returns-2 c = trsv-refused complex _ _ _ _ _ _ _ (c .before .before .check-trsv .ensures) (c .before .passed .ensures) (c .if1 .left)
@@ -32,7 +40,8 @@ trsv-spec =
     check-trsv-requires
     passed-requires
     column-requires
-    solve-requires
+    system-of-requires
+    solve-left-requires
     same-length
     returns
     returns-2)

@@ -1,5 +1,6 @@
 use Rattle.number.specs.Kind.{real32}
-use Rattle.order.proofs.Kernels.{matrix-runs, trsm-refused, trsm-done}
+use Rattle.order.proofs.Judged.{matrix-runs}
+use Rattle.order.proofs.SolveKernels.{trsm-refused, trsm-done}
 use borrow.Author.Needs.{needs}
 use Rattle.triangle.proofs.real32.trsm.Statement.{statement}
 use Rattle.triangle.proofs.real32.trsm.Tie as tie

@@ -1,39 +1,46 @@
+use mathlib.Core.Path.{refl}
+use native.Mathlib.Omega.{arith}
 use Rattle.number.specs.Kind.{real64}
+use Rattle.slab.proofs.Shown.{shown, inside}
+use Rattle.order.proofs.Systems.{unknown-shown}
 use Rattle.order.proofs.Multiplies.{multiply-one-is}
-use Rattle.order.proofs.Places.{in-b, whole-line}
 use borrow.Author.Needs.{needs}
 use Rattle.triangle.proofs.real64.multiply_one.Statement.{statement}
 use Rattle.triangle.proofs.real64.multiply_one.Tie as tie
 
-multiplied-after-requires : tie.Need-multiplied-after-requires
-multiplied-after-requires c κs = search needs
+rows-requires : tie.Need-rows-requires
+rows-requires c κs = search needs
 
-order-of-requires : tie.Need-order-of-requires
-order-of-requires c κs = search needs
+in-order-requires : tie.Need-in-order-requires
+in-order-requires c κs = search needs
 
-line-dot-requires : tie.Need-line-dot-requires
-line-dot-requires c κs = whole-line _ _ _ _ _ (c .before .before .before .before .before .pre .sided) _ _ (c .before .before .multiplied-after .ensures .1) (c .before .before .before .before .before .pre .line) _ (c .before .order-of .ensures)
+line-sum-requires : tie.Need-line-sum-requires
+line-sum-requires c κs = search needs
 
 times-if-requires : tie.Need-times-if-requires
 times-if-requires c κs = search needs
 
-replace-requires : tie.Need-replace-requires
-replace-requires c κs = in-b _ _ _ _ _ (c .before .before .before .before .before .before .before .before .pre .sided) _ _ (c .before .before .before .before .before .multiplied-after .ensures .1) (c .before .before .before .before .before .before .before .before .pre .line)
+place-requires : tie.Need-place-requires
+place-requires c κs = let p = c .before .before .before .before .before .before .before .before .before .pre in shown _ _ _ _ (unknown-shown _ _ _ (p .ready) _ _ (omega (arith, c .before .before .before .before .in-order .ensures .1, c .before .before .before .before .before .rows .ensures)) (p .line)) (omega arith)
+
+put64-requires : tie.Need-put64-requires
+put64-requires c κs = let p = c .before .before .before .before .before .before .before .before .before .before .pre in inside _ _ _ _ (unknown-shown _ _ _ (p .ready) _ _ (omega (arith, c .before .before .before .before .before .in-order .ensures .1, c .before .before .before .before .before .before .rows .ensures)) (p .line)) _ (c .place .ensures)
 
 same-length : tie.Need-same-length
 same-length c = search needs
 
 returns : tie.Need-returns
-returns c = multiply-one-is real64 _ _ _ _ _ _ _ _ _ _ _ _ _ _ _ (c .before .before .before .before .before .before .before .before .multiplied-after .ensures .0) (c .before .before .before .before .before .before .before .order-of .ensures) (c .before .before .before .before .before .line-dot .ensures) (c .before .before .before .times-if .ensures) (c .before .before .replace .ensures)
+returns c = multiply-one-is real64 _ _ _ _ _ _ _ _ _ _ _ _ _ refl (c .before .before .before .before .before .before .before .before .before .rows .ensures) (c .before .before .before .before .before .before .before .before .in-order .ensures .0) (c .before .before .before .place .ensures) (c .before .before .before .before .before .before .line-sum .ensures) (c .before .before .before .before .before .times-if .ensures) (c .before .before .put64 .ensures)
 
 pub multiply-one-spec : {M : Type 1} → statement M
 multiply-one-spec =
     tie.close
     (tie.spec
-    multiplied-after-requires
-    order-of-requires
-    line-dot-requires
+    rows-requires
+    in-order-requires
+    line-sum-requires
     times-if-requires
-    replace-requires
+    place-requires
+    put64-requires
     same-length
     returns)

@@ -5,7 +5,7 @@ use borrow.Author.Needs.{needs}
 use lib.ListN.{length}
 use Prim.Native.Nat.{_≤_, _-_}
 use mathlib.Core.Path.{_≡_, refl, _∙_}
-use Rattle.order.proofs.Places.{row-in}
+use Rattle.order.proofs.Systems.{row-in}
 use native.Mathlib.Omega.{arith}
 use Rattle.triangle.proofs.real64.scale.Statement.{statement}
 use Rattle.triangle.proofs.real64.scale.Tie as tie

@@ -1,0 +1,174 @@
+-- A line's sum, of its own term and the run behind or before it, is the definition's sum over the admitted indices.
+use Prim.Native.Nat.{ℕ, zero, suc, _+_, _-_, _≤_, _<_}
+use mathlib.Core.Bool.{Bool, true, false, not, cond}
+use mathlib.Core.List.{List}
+use mathlib.Core.Path.{_≡_, refl, ap, sym, _∙_}
+use native.Mathlib.Omega.{arith}
+use borrow.Author.Tests.{le-leb, lt-leb, eq-eqb, ne-eqb}
+use lib.Dec.{leb}
+use Rattle.number.specs.Kind.{Kind}
+use Rattle.view.specs.declared.View.{View}
+use Rattle.view.specs.declared.Trans.{Trans}
+use Rattle.view.specs.declared.UpLo.{UpLo}
+use Rattle.view.specs.declared.Diag.{Diag}
+use Rattle.view.specs.declared.Diag.the-variants.{NonUnit, Unit}
+use Rattle.view.specs.declared.Side.{Side}
+use Rattle.view.specs.declared.Side.the-variants.{Left, Right}
+use Rattle.view.specs.Checks.{orderOf}
+use Rattle.slab.specs.Elem.{elem}
+use Rattle.slab.specs.Run.{more}
+use Rattle.blas.specs.Matrix.{Matrix, op, sumOver}
+use Rattle.blas.specs.Triangular.{opUpper, inOp, triangular}
+use Rattle.blas.specs.Substitution.{unknown, lastFirst}
+use Rattle.order.specs.declared.System.{System}
+use Rattle.order.specs.Triangles.{systemOf, coefficient, weigh}
+use Rattle.order.specs.Multiply.{ownDiag, own, term, lineSum}
+use Rattle.order.proofs.Systems.{coefficient-is, lines-elem}
+
+-- ---- a sum over the indices from q on, or up to q
+
+module _ (K : Kind) (f : ℕ → K .Elem) (q : ℕ) where
+  abbrev from-q : ℕ → Bool
+  from-q p = leb q p
+
+  abbrev to-q : ℕ → Bool
+  to-q p = leb p q
+
+  none-yet : (n : ℕ) → n ≤ q → sumOver K n from-q f ≡ K .zero
+  unfolding sumOver
+  none-yet zero h = refl
+  none-yet (suc n) h =
+      ap (λ (b : Bool). cond b (K .add (sumOver K n from-q f) (f n)) (sumOver K n from-q f)) (lt-leb q n (omega arith)) ∙ none-yet n (omega arith)
+
+  over-behind : (k : ℕ) → sumOver K (suc q + k) from-q f ≡ more K (K .add (K .zero) (f q)) f (suc q) k
+  unfolding sumOver more
+  over-behind zero =
+      let e : suc q + 0 ≡ suc q = omega arith in
+      ap (λ (n : ℕ). sumOver K n from-q f) e
+      ∙ ap (λ (b : Bool). cond b (K .add (sumOver K q from-q f) (f q)) (sumOver K q from-q f)) (le-leb q q (omega arith))
+      ∙ ap (λ (x : K .Elem). K .add x (f q)) (none-yet q (omega arith))
+  over-behind (suc k) =
+      let e : suc q + suc k ≡ suc (suc q + k) = omega arith in
+      ap (λ (n : ℕ). sumOver K n from-q f) e
+      ∙ ap (λ (b : Bool). cond b (K .add (sumOver K (suc q + k) from-q f) (f (suc q + k))) (sumOver K (suc q + k) from-q f)) (le-leb q (suc q + k) (omega arith))
+      ∙ ap (λ (x : K .Elem). K .add x (f (suc q + k))) (over-behind k)
+
+  all-so-far : (n : ℕ) → n ≤ suc q → sumOver K n to-q f ≡ more K (K .zero) f 0 n
+  unfolding sumOver more
+  all-so-far zero h = refl
+  all-so-far (suc n) h =
+      let e : n ≡ 0 + n = omega arith in
+      ap (λ (b : Bool). cond b (K .add (sumOver K n to-q f) (f n)) (sumOver K n to-q f)) (le-leb n q (omega arith))
+      ∙ (λ i. K .add (all-so-far n (omega arith) i) (f (e i)))
+
+  over-before : (k : ℕ) → sumOver K (suc q + k) to-q f ≡ K .add (more K (K .zero) f 0 q) (f q)
+  unfolding sumOver more
+  over-before zero =
+      let e : suc q + 0 ≡ suc q = omega arith in
+      let d : 0 + q ≡ q = omega arith in
+      ap (λ (n : ℕ). sumOver K n to-q f) e ∙ all-so-far (suc q) (omega arith) ∙ ap (λ (p : ℕ). K .add (more K (K .zero) f 0 q) (f p)) d
+  over-before (suc k) =
+      let e : suc q + suc k ≡ suc (suc q + k) = omega arith in
+      ap (λ (n : ℕ). sumOver K n to-q f) e
+      ∙ ap (λ (b : Bool). cond b (K .add (sumOver K (suc q + k) to-q f) (f (suc q + k))) (sumOver K (suc q + k) to-q f)) (lt-leb (suc q + k) q (omega arith))
+      ∙ over-before k
+
+-- runs whose terms agree
+more-cong : (K : Kind) (f g : ℕ → K .Elem) (x : K .Elem) (from n : ℕ) → ((i : ℕ) → i < n → f (from + i) ≡ g (from + i)) → more K x f from n ≡ more K x g from n
+unfolding more
+more-cong K f g x from zero h = refl
+more-cong K f g x from (suc n) h = λ i. K .add (more-cong K f g x from n (λ p l. h p (omega arith)) i) (h n (omega arith) i)
+
+-- the terms but the own one are g's
+module _ (K : Kind) (f g : ℕ → K .Elem) (own : K .Elem) (m q : ℕ) (below : q < m) (at-q : own ≡ f q)
+    (else : (p : ℕ) → (q ≡ p → ⊥) → g p ≡ f p) where
+  sum-in-parts : (last : Bool)
+      → cond last (more K (K .add (K .zero) own) g (suc q) (m - suc q)) (K .add (more K (K .zero) g 0 q) own) ≡ sumOver K m (λ p. cond last (leb q p) (leb p q)) f
+  sum-in-parts true =
+      let e : suc q + (m - suc q) ≡ m = omega arith in
+      ap (λ (x : K .Elem). more K (K .add (K .zero) x) g (suc q) (m - suc q)) at-q
+      ∙ more-cong K g f (K .add (K .zero) (f q)) (suc q) (m - suc q) (λ i l. else (suc q + i) (λ d. omega arith))
+      ∙ sym (over-behind K f q (m - suc q))
+      ∙ ap (λ (n : ℕ). sumOver K n (λ p. leb q p) f) e
+  sum-in-parts false =
+      let e : suc q + (m - suc q) ≡ m = omega arith in
+      (λ i. K .add (more-cong K g f (K .zero) 0 q (λ j l. else (0 + j) (λ d. omega arith)) i) (at-q i))
+      ∙ sym (over-before K f q (m - suc q))
+      ∙ ap (λ (n : ℕ). sumOver K n (λ p. leb p q) f) e
+
+-- ---- the definition's sum, along a line
+
+-- element p of a line goes into element q of it
+abbrev pub goesInto : Side → UpLo → Trans → ℕ → ℕ → Bool
+goesInto Left uplo t q p = inOp uplo t q p
+goesInto Right uplo t q p = inOp uplo t p q
+
+-- what it brings there, of value x, in this order of operands
+abbrev pub weighs : (K : Kind) → Side → Diag → Trans → Matrix K → ℕ → ℕ → K .Elem → K .Elem
+weighs K Left diag t a q p x = K .mul (triangular K diag t a q p) x
+weighs K Right diag t a q p x = K .mul x (triangular K diag t a p q)
+
+-- element q of line l of the product
+abbrev pub lineDot : (K : Kind) → Side → UpLo → Trans → Diag → Matrix K → View → List (K .Cell) → ℕ → ℕ → K .Elem
+lineDot K side uplo t diag a v s q l =
+    sumOver K (orderOf side v) (λ p. goesInto side uplo t q p) (λ p. weighs K side diag t a q p (unknown K side s v p l))
+
+module _ (K : Kind) (t : Trans) (a : Matrix K) (q : ℕ) where
+  own-is : (diag : Diag) → ownDiag K diag (op K t a q q) ≡ triangular K diag t a q q
+  own-is NonUnit = refl
+  own-is Unit = sym (ap (λ (b : Bool). cond b (K .one) (op K t a q q)) (eq-eqb q q refl))
+
+  row-is : (diag : Diag) (p : ℕ) → (q ≡ p → ⊥) → op K t a q p ≡ triangular K diag t a q p
+  row-is NonUnit p d = refl
+  row-is Unit p d = sym (ap (λ (b : Bool). cond b (K .one) (op K t a q p)) (ne-eqb q p d))
+
+  col-is : (diag : Diag) (p : ℕ) → (q ≡ p → ⊥) → op K t a p q ≡ triangular K diag t a p q
+  col-is NonUnit p d = refl
+  col-is Unit p d = sym (ap (λ (b : Bool). cond b (K .one) (op K t a p q)) (ne-eqb p q (λ e. d (sym e))))
+
+module _ (K : Kind) (uplo : UpLo) (t : Trans) (diag : Diag) (va vb : View) (sa s : List (K .Cell)) (q l : ℕ) where
+  abbrev a : Matrix K
+  a = elem K sa va
+
+  pub line-sum-is : (side : Side) → q < orderOf side vb → lineSum K (systemOf side uplo t diag va vb) sa s q l ≡ lineDot K side uplo t diag a vb s q l
+  unfolding lineSum
+  line-sum-is Left h =
+      sum-in-parts K (λ p. weighs K Left diag t a q p (unknown K Left s vb p l)) _ _ (vb .rows) q h
+      (λ i. K .mul ((ap (ownDiag K diag) (coefficient-is K uplo t diag va vb sa Left q q) ∙ own-is K t a q diag) i) (lines-elem K s Left vb q l i))
+      (λ p d i. K .mul ((coefficient-is K uplo t diag va vb sa Left q p ∙ row-is K t a q diag p d) i) (lines-elem K s Left vb p l i))
+      (lastFirst Left uplo t)
+  line-sum-is Right h =
+      sum-in-parts K (λ p. weighs K Right diag t a q p (unknown K Right s vb p l)) _ _ (vb .cols) q h
+      (λ i. K .mul (lines-elem K s Right vb q l i) ((ap (ownDiag K diag) (coefficient-is K uplo t diag va vb sa Right q q) ∙ own-is K t a q diag) i))
+      (λ p d i. K .mul (lines-elem K s Right vb p l i) ((coefficient-is K uplo t diag va vb sa Right q p ∙ col-is K t a q diag p d) i))
+      (lastFirst Right uplo t)
+      ∙ mirrored (opUpper uplo t)
+    where
+      mirrored : (b : Bool) → sumOver K (vb .cols) (λ p. cond (not b) (leb q p) (leb p q)) (λ p. weighs K Right diag t a q p (unknown K Right s vb p l))
+          ≡ sumOver K (vb .cols) (λ p. cond b (leb p q) (leb q p)) (λ p. weighs K Right diag t a q p (unknown K Right s vb p l))
+      mirrored true = refl
+      mirrored false = refl
+
+-- ---- as the engine meets it: what is read, the own term, and the run behind or before it
+
+module _ (K : Kind) (y : System) (a s : List (K .Cell)) (q l : ℕ) (c x o z : K .Elem) (weighed : c ≡ ownDiag K (y .diag) (coefficient K y a q q))
+    (read : x ≡ elem K s (y .b) q l) (brought : o ≡ weigh K (y .side) c x) (begun : z ≡ K .zero) where
+  own-term : o ≡ own K y a s q l
+  own-term = brought ∙ (λ i. weigh K (y .side) (weighed i) (read i))
+
+  pub sum-behind : (m : ℕ) (first r : K .Elem) → y .last ≡ true → m ≡ y .b .rows → first ≡ K .add z o
+      → r ≡ more K first (term K y a s q l) (q + 1) (m - 1 - q) → r ≡ lineSum K y a s q l
+  unfolding lineSum
+  sum-behind m first r h counted began e =
+      let f : q + 1 ≡ suc q = omega arith in
+      let n : m - 1 - q ≡ y .b .rows - suc q = omega arith in
+      e
+      ∙ (λ i. more K ((began ∙ (λ j. K .add (begun j) (own-term j))) i) (term K y a s q l) (f i) (n i))
+      ∙ sym (ap (λ (b : Bool). cond b (more K (K .add (K .zero) (own K y a s q l)) (term K y a s q l) (suc q) (y .b .rows - suc q)) (K .add (more K (K .zero) (term K y a s q l) 0 q) (own K y a s q l))) h)
+
+  pub sum-before : (sum r : K .Elem) → y .last ≡ false → sum ≡ more K z (term K y a s q l) 0 q → r ≡ K .add sum o → r ≡ lineSum K y a s q l
+  unfolding lineSum
+  sum-before sum r h summed e =
+      e
+      ∙ (λ i. K .add ((summed ∙ ap (λ (w : K .Elem). more K w (term K y a s q l) 0 q) begun) i) (own-term i))
+      ∙ sym (ap (λ (b : Bool). cond b (more K (K .add (K .zero) (own K y a s q l)) (term K y a s q l) (suc q) (y .b .rows - suc q)) (K .add (more K (K .zero) (term K y a s q l) 0 q) (own K y a s q l))) h)

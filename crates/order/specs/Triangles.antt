@@ -1,0 +1,46 @@
+-- A triangular system or product, chosen before its loops: which views show the coefficients and the unknowns, and in which order operands stand.
+use Prim.Native.Nat.{ℕ}
+use mathlib.Core.Bool.{Bool, true, false}
+use mathlib.Core.List.{List}
+use Rattle.number.specs.Kind.{Kind}
+use Rattle.view.specs.declared.View.{View}
+use Rattle.view.specs.declared.Trans.{Trans}
+use Rattle.view.specs.declared.UpLo.{UpLo}
+use Rattle.view.specs.declared.Diag.{Diag}
+use Rattle.view.specs.declared.Side.{Side}
+use Rattle.view.specs.declared.Side.the-variants.{Left, Right}
+use Rattle.view.specs.Place.{transposedOf, opViewOf, isConj}
+use Rattle.slab.specs.Run.{plain}
+use Rattle.blas.specs.Substitution.{lastFirst}
+use Rattle.order.specs.declared.System.{System}
+
+-- unknown p of line l is element (p, l): Left of B, Right of its transpose
+abbrev pub linesView : Side → View → View
+linesView Left v = v
+linesView Right v = transposedOf v
+
+abbrev pub systemOf : Side → UpLo → Trans → Diag → View → View → System
+systemOf side uplo t diag a b = record {
+  side = side;
+  diag = diag;
+  conjugated = isConj t;
+  last = lastFirst side uplo t;
+  a = linesView side (opViewOf t a);
+  b = linesView side b;
+  rows = b .rows;
+  cols = b .cols;
+}
+
+-- what unknown p weighs in the equation of unknown q
+abbrev pub coefficient : (K : Kind) → System → List (K .Cell) → ℕ → ℕ → K .Elem
+coefficient K y a q p = plain K (y .conjugated) a (y .a) q p
+
+-- a coefficient times an unknown, in the side's order of operands
+abbrev pub weigh : (K : Kind) → Side → K .Elem → K .Elem → K .Elem
+weigh K Left c x = K .mul c x
+weigh K Right c x = K .mul x c
+
+-- times alpha, or as it is
+abbrev pub timesIf : (K : Kind) → Bool → K .Elem → K .Elem → K .Elem
+timesIf K true alpha x = K .mul alpha x
+timesIf K false alpha x = x
