@@ -76,7 +76,7 @@ fn call(routine: Routine, kind: Kind, n: u64) -> Call {
 fn time<T: Element, C: Copy + Default>(
     call: &Call,
     cell: fn(u64) -> C,
-    run: fn(Routine, Arguments<C>) -> Option<u8>,
+    run: fn(Routine, &Arguments<C>) -> Option<u8>,
 ) -> (f64, Option<f64>) {
     let mut slabs: Vec<Vec<T>> = call.slabs.iter().map(|slab| elements(slab)).collect();
     let before = slabs.last().unwrap().clone();
@@ -92,7 +92,7 @@ fn time<T: Element, C: Copy + Default>(
     };
     let mut ours = || {
         restore();
-        black_box(run(call.routine, black_box(arguments)));
+        black_box(run(call.routine, black_box(&arguments)));
     };
     let rounds = (SAMPLE / sample(&mut theirs, 3)).clamp(1.0, 1e5) as u32;
     let linked = capi::is_linked(call.routine, call.kind);

@@ -5,30 +5,19 @@ use crate::call::{Call, Kind, Routine, View};
 /// Cells before and behind each slab, which no call may write.
 const GUARD: usize = 4;
 
-/// A call's arguments, handed out in order.
-#[derive(Clone, Copy)]
+/// A call's arguments.
 pub struct Arguments<C> {
     flags: [u8; 4],
     scalars: [C; 4],
     views: [View; 3],
     slabs: [(*mut C, usize); 3],
-    flag: usize,
-    scalar: usize,
-    view: usize,
 }
 
 impl<C: Copy + Default> Arguments<C> {
     /// The call's arguments, on the given slabs.
     pub fn of(call: &Call, cell: fn(u64) -> C, slabs: &[(*mut C, usize)]) -> Self {
-        let mut arguments = Arguments {
-            flags: [0; 4],
-            scalars: [C::default(); 4],
-            views: [call.views[0]; 3],
-            slabs: [slabs[0]; 3],
-            flag: 0,
-            scalar: 0,
-            view: 0,
-        };
+        let mut arguments =
+            Arguments { flags: [0; 4], scalars: [C::default(); 4], views: [call.views[0]; 3], slabs: [slabs[0]; 3] };
         arguments.flags[..call.flags.len()].copy_from_slice(&call.flags);
         for (to, from) in arguments.scalars.iter_mut().zip(call.scalars()) {
             *to = cell(from);
@@ -39,31 +28,39 @@ impl<C: Copy + Default> Arguments<C> {
     }
 }
 
+/// A call's arguments, handed out in order.
+struct Hand<'a, C> {
+    from: &'a Arguments<C>,
+    flag: usize,
+    scalar: usize,
+    view: usize,
+}
+
 /// Used by those functions that are linked.
 #[allow(dead_code)]
-impl<C: Copy> Arguments<C> {
+impl<C: Copy> Hand<'_, C> {
     fn flag(&mut self) -> u8 {
         self.flag += 1;
-        self.flags[self.flag - 1]
+        self.from.flags[self.flag - 1]
     }
 
     fn scalar(&mut self) -> C {
         self.scalar += 1;
-        self.scalars[self.scalar - 1]
+        self.from.scalars[self.scalar - 1]
     }
 
     /// The pointer, the first of a view's arguments.
     fn pointer(&mut self) -> *mut C {
         self.view += 1;
-        self.slabs[self.view - 1].0
+        self.from.slabs[self.view - 1].0
     }
 
     fn length(&self) -> usize {
-        self.slabs[self.view - 1].1
+        self.from.slabs[self.view - 1].1
     }
 
     fn shape(&self) -> View {
-        self.views[self.view - 1]
+        self.from.views[self.view - 1]
     }
 }
 
@@ -75,17 +72,18 @@ macro_rules! interface {
 
         /// The function's answer; none where it is not linked.
         #[allow(unused_mut)]
-        pub fn $call(routine: Routine, mut arguments: Arguments<$cell>) -> Option<u8> {
+        pub fn $call(routine: Routine, arguments: &Arguments<$cell>) -> Option<u8> {
+            let mut hand = Hand { from: arguments, flag: 0, scalar: 0, view: 0 };
             match routine {
                 $(Routine::$routine => {
                     #[cfg($name)]
                     {
                         interface!(@declare $name $cell; []; $($letter)*);
-                        interface!(@call $name arguments; []; $($letter)*)
+                        interface!(@call $name hand; []; $($letter)*)
                     }
                     #[cfg(not($name))]
                     {
-                        let _ = arguments;
+                        let _ = hand;
                         None
                     }
                 })*
@@ -216,7 +214,7 @@ fn guarded<C: Copy + Default>(
     call: &mut Call,
     cell: fn(u64) -> C,
     bits: fn(C) -> u64,
-    run: fn(Routine, Arguments<C>) -> Option<u8>,
+    run: fn(Routine, &Arguments<C>) -> Option<u8>,
 ) -> Option<u8> {
     let guard = [cell(0x5a5a_5a5a_5a5a_5a5a); GUARD];
     let surround = |slab: &Vec<u64>| {
@@ -226,7 +224,7 @@ fn guarded<C: Copy + Default>(
     let mut buffers: Vec<Vec<C>> = call.slabs.iter().map(surround).collect();
     let slabs: Vec<(*mut C, usize)> =
         buffers.iter_mut().map(|buffer| (buffer[GUARD..].as_mut_ptr(), buffer.len() - 2 * GUARD)).collect();
-    let given = run(call.routine, Arguments::of(call, cell, &slabs))?;
+    let given = run(call.routine, &Arguments::of(call, cell, &slabs))?;
     for (buffer, slab) in buffers.into_iter().zip(&mut call.slabs) {
         let cells: Vec<u64> = buffer.into_iter().map(bits).collect();
         let (before, behind) = (&cells[..GUARD], &cells[cells.len() - GUARD..]);
