@@ -4,28 +4,22 @@ use mathlib.Core.Path.{_≡_, refl, ap, sym, subst, _∙_}
 use native.Mathlib.Numerals.{add-one}
 use native.Mathlib.Omega.{arith}
 use Rattle.number.specs.Kind.{Kind}
-use Rattle.blas.specs.Matrix.{Matrix, sum, pairSum, dot}
+use Rattle.blas.specs.Matrix.{sum, pairSum}
 
 module _ (K : Kind) (f : ℕ → K .Elem) where
-  pub sum-start : sum K 0 f ≡ K .zero
+  pub sum-start : (x : K .Elem) → x ≡ K .zero → x ≡ sum K 0 f
   unfolding sum
-  sum-start = refl
+  sum-start x e = e
 
-  pub sum-step : (n : ℕ) → sum K (n + 1) f ≡ K .add (sum K n f) (f n)
+  pub sum-next : (p : ℕ) (acc m next : K .Elem) → acc ≡ sum K p f → m ≡ f p → next ≡ K .add acc m → next ≡ sum K (p + 1) f
   unfolding sum
-  sum-step n = rw add-one
+  sum-next p acc m next e g n = rw add-one (n ∙ (λ t. K .add (e t) (g t)))
 
-  -- a loop that is left at p has summed n terms
-  pub sum-end : (p n : ℕ) (x : K .Elem) → p ≤ n → n ≤ p → x ≡ sum K p f → x ≡ sum K n f
-  sum-end p n x h g e =
+  -- a loop that is left at p has added n terms
+  pub sum-end : (p n : ℕ) (y : K .Elem) → p ≤ n → n ≤ p → y ≡ sum K p f → y ≡ sum K n f
+  sum-end p n y h g e =
       let q : p ≡ n = omega arith in
-      subst (λ (k : ℕ). x ≡ sum K k f) q e
-
--- one product more: acc is the sum so far, x and y the next factors
-pub dot-next : (K : Kind) (l r : Matrix K) (i j p : ℕ) (acc x y m next : K .Elem) → acc ≡ dot K p l r i j → x ≡ l i p → y ≡ r p j
-    → m ≡ K .mul x y → next ≡ K .add acc m → next ≡ dot K (p + 1) l r i j
-dot-next K l r i j p acc x y m next e ex ey em en =
-    en ∙ (λ t. K .add (e t) ((em ∙ (λ s. K .mul (ex s) (ey s))) t)) ∙ sym (sum-step K (λ q. K .mul (l i q) (r q j)) p)
+      subst (λ (m : ℕ). y ≡ sum K m f) q e
 
 -- a sum with two additions for each index
 module _ (K : Kind) (f g : ℕ → K .Elem) where

@@ -15,10 +15,10 @@ use crate::flags::side_of;
 use crate::flags::trans_of;
 use crate::flags::uplo_of;
 use crate::flags::view_of;
+use judge::refuse2;
+use judge::refuse3;
 use number::Real64;
 use view::number;
-use view::refuse2;
-use view::refuse3;
 
 // y ← alpha op(A) x + beta y
 #[no_mangle]

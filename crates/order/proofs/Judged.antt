@@ -1,7 +1,7 @@
 -- A call that passes its check is ready (trmv has trsv's check, and trmm trsm's).
 use Prim.Native.Nat.{ℕ}
 use mathlib.Core.Bool.{Bool, true}
-use mathlib.Core.Path.{_≡_, refl, sym, subst, _∙_}
+use mathlib.Core.Path.{_≡_, sym, subst, _∙_}
 use Rattle.view.specs.declared.View.{View}
 use Rattle.view.specs.declared.Answer.{Answer}
 use Rattle.view.specs.declared.Side.{Side}
@@ -14,7 +14,7 @@ use Rattle.view.specs.Vector.{columnOf}
 use Rattle.view.specs.VectorLaws.{column-accepted, column-no-overlap}
 use Rattle.view.specs.OverlapLaws.{no-overlap→index-inj}
 use Rattle.view.specs.PlaceLaws.{fits→index-lt}
-use Rattle.slab.specs.Distinct.{Inside, Distinct}
+use Rattle.slab.specs.Distinct.{Inside}
 use Rattle.blas.proofs.OutcomeLaws.{check-done}
 use Rattle.order.specs.Ready.{Sided}
 
@@ -32,26 +32,23 @@ module _ (a x : View) (la lx : ℕ) (r : Answer) (flag : Bool) (answered : r ≡
         b = column-accepted x lx (s .1 .vector) (h .each .1 .0);
         rows = sym (s .1 .length);
         cols = s .0 ∙ sym (s .1 .length);
+        distinct = record {
+          only = no-overlap→index-inj (columnOf x) lx (column-accepted x lx (s .1 .vector) (h .each .1 .0) .fits) (column-no-overlap x vector-passed (h .distinct));
+        };
       })
-
-  pub vector-distinct : Distinct (columnOf x)
-  vector-distinct =
-      let h = judge-passed _ _ _ (check-done _ r flag answered told passed) in
-      record {
-        only = no-overlap→index-inj (columnOf x) lx (vector-runs (columnOf x) refl .b .fits) (column-no-overlap x vector-passed (h .distinct));
-      }
 
 module _ (side : Side) (a b : View) (la lb : ℕ) (r : Answer) (flag : Bool) (answered : r ≡ trsmCheck side a la b lb) (told : flag ≡ isDone r) (passed : flag ≡ true) where
   pub matrix-runs : Sided side a la b lb
   matrix-runs =
       let h = judge-passed _ _ _ (check-done _ r flag answered told passed) in
       let s = trmm-sizes side a b (h .shape) in
-      record { a = h .each .0; b = h .each .1 .0; rows = s .0; cols = s .1 }
-
-  pub matrix-distinct : Distinct b
-  matrix-distinct =
-      let h = judge-passed _ _ _ (check-done _ r flag answered told passed) in
-      record { only = no-overlap→index-inj b lb (h .each .1 .0 .fits) (h .distinct) }
+      record {
+        a = h .each .0;
+        b = h .each .1 .0;
+        rows = s .0;
+        cols = s .1;
+        distinct = record { only = no-overlap→index-inj b lb (h .each .1 .0 .fits) (h .distinct) };
+      }
 
 pub all-inside : (side : Side) (va : View) (la : ℕ) (vb : View) (lb : ℕ) → Sided side va la vb lb → Inside vb lb
 all-inside side va la vb lb s = record { below = fits→index-lt vb lb (s .b .fits) }

@@ -21,8 +21,9 @@ use Rattle.blas.specs.Matrix.{Matrix, op, sumOver}
 use Rattle.blas.specs.Triangular.{opUpper, inOp, triangular}
 use Rattle.blas.specs.Substitution.{unknown, lastFirst}
 use Rattle.order.specs.declared.System.{System}
-use Rattle.order.specs.Triangles.{systemOf, coefficient, weigh}
+use Rattle.order.specs.Triangles.{systemOf, coefficient}
 use Rattle.order.specs.Multiply.{ownDiag, own, term, lineSum}
+use Rattle.order.proofs.Commutes.{Commutes}
 use Rattle.order.proofs.Systems.{coefficient-is, lines-elem}
 
 -- ---- a sum over the indices from q on, or up to q
@@ -126,7 +127,7 @@ module _ (K : Kind) (t : Trans) (a : Matrix K) (q : ℕ) where
   col-is NonUnit p d = refl
   col-is Unit p d = sym (ap (λ (b : Bool). cond b (K .one) (op K t a p q)) (ne-eqb p q (λ e. d (sym e))))
 
-module _ (K : Kind) (uplo : UpLo) (t : Trans) (diag : Diag) (va vb : View) (sa s : List (K .Cell)) (q l : ℕ) where
+module _ (K : Kind) (C : Commutes K) (uplo : UpLo) (t : Trans) (diag : Diag) (va vb : View) (sa s : List (K .Cell)) (q l : ℕ) where
   abbrev a : Matrix K
   a = elem K sa va
 
@@ -139,8 +140,8 @@ module _ (K : Kind) (uplo : UpLo) (t : Trans) (diag : Diag) (va vb : View) (sa s
       (lastFirst Left uplo t)
   line-sum-is Right h =
       sum-in-parts K (λ p. weighs K Right diag t a q p (unknown K Right s vb p l)) _ _ (vb .cols) q h
-      (λ i. K .mul (lines-elem K s Right vb q l i) ((ap (ownDiag K diag) (coefficient-is K uplo t diag va vb sa Right q q) ∙ own-is K t a q diag) i))
-      (λ p d i. K .mul (lines-elem K s Right vb p l i) ((coefficient-is K uplo t diag va vb sa Right q p ∙ col-is K t a q diag p d) i))
+      (C .commutes _ _ ∙ (λ i. K .mul (lines-elem K s Right vb q l i) ((ap (ownDiag K diag) (coefficient-is K uplo t diag va vb sa Right q q) ∙ own-is K t a q diag) i)))
+      (λ p d. C .commutes _ _ ∙ (λ i. K .mul (lines-elem K s Right vb p l i) ((coefficient-is K uplo t diag va vb sa Right q p ∙ col-is K t a q diag p d) i)))
       (lastFirst Right uplo t)
       ∙ mirrored (opUpper uplo t)
     where
@@ -152,9 +153,9 @@ module _ (K : Kind) (uplo : UpLo) (t : Trans) (diag : Diag) (va vb : View) (sa s
 -- ---- as the engine meets it: what is read, the own term, and the run behind or before it
 
 module _ (K : Kind) (y : System) (a s : List (K .Cell)) (q l : ℕ) (c x o z : K .Elem) (weighed : c ≡ ownDiag K (y .diag) (coefficient K y a q q))
-    (read : x ≡ elem K s (y .b) q l) (brought : o ≡ weigh K (y .side) c x) (begun : z ≡ K .zero) where
+    (read : x ≡ elem K s (y .b) q l) (brought : o ≡ K .mul c x) (begun : z ≡ K .zero) where
   own-term : o ≡ own K y a s q l
-  own-term = brought ∙ (λ i. weigh K (y .side) (weighed i) (read i))
+  own-term = brought ∙ (λ i. K .mul (weighed i) (read i))
 
   pub sum-behind : (m : ℕ) (first r : K .Elem) → y .last ≡ true → m ≡ y .b .rows → first ≡ K .add z o
       → r ≡ more K first (term K y a s q l) (q + 1) (m - 1 - q) → r ≡ lineSum K y a s q l

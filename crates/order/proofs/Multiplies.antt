@@ -34,6 +34,7 @@ use Rattle.order.specs.Triangles.{linesView, systemOf}
 use Rattle.order.specs.Multiply.{turn, line, lineSum, multiplyOne, multiplyColumn, multiplyAll}
 use Rattle.order.proofs.WalkLaws.{walk-cong, walk-nested}
 use Rattle.order.proofs.InOrder.{Swaps, one-more}
+use Rattle.order.proofs.Commutes.{Commutes}
 use Rattle.order.proofs.Systems.{lines-index}
 use Rattle.order.proofs.LineSums.{goesInto, weighs, lineDot, line-sum-is}
 
@@ -131,7 +132,7 @@ lines-rows : (side : Side) (v : View) → (linesView side v) .rows ≡ orderOf s
 lines-rows Left v = refl
 lines-rows Right v = refl
 
-module _ (K : Kind) (L : SlabLaws K) (W : Swaps K) (side : Side) (uplo : UpLo) (t : Trans) (diag : Diag) (va : View) (sa : List (K .Cell))
+module _ (K : Kind) (L : SlabLaws K) (W : Swaps K) (C : Commutes K) (side : Side) (uplo : UpLo) (t : Trans) (diag : Diag) (va : View) (sa : List (K .Cell))
     (start : K .Elem → K .Elem) (v : View) (s₀ : List (K .Cell)) (inside : Inside v (K .count s₀)) (distinct : Distinct v) where
   abbrev system : System
   system = systemOf side uplo t diag va v
@@ -216,7 +217,7 @@ module _ (K : Kind) (L : SlabLaws K) (W : Swaps K) (side : Side) (uplo : UpLo) (
     next s e =
         (λ i. K .put (e i) (index (linesView side v) (inOrder last (lines-rows side v i) (turnOf side v n)) (lineOf side v n)) (start (lineSum K system sa (e i) (inOrder last (lines-rows side v i) (turnOf side v n)) (lineOf side v n))))
         ∙ (λ i. K .put (after n) ((lines-index side v q (lineOf side v n) ∙ at-index side v q (lineOf side v n)) i)
-        (start ((line-sum-is K uplo t diag va v sa (after n) q (lineOf side v n) side q-in ∙ same-dot) i)))
+        (start ((line-sum-is K C uplo t diag va v sa (after n) q (lineOf side v n) side q-in ∙ same-dot) i)))
         ∙ sym (one-more K W v (done n) (done (suc n)) product r c (shown .0) (shown .1) distinct
         (lt-ltb _ (suc n) (is-last (rank-at last v n h side))) (le-ltb _ n (is-not (rank-at last v n h side))) like s₀)
       where

@@ -22,30 +22,32 @@ use Rattle.blas.specs.Trmm.{trmm}
 use Rattle.blas.proofs.OutcomeLaws.{gives-work, gives-refusal}
 use Rattle.order.specs.declared.System.{System}
 use Rattle.order.specs.Triangles.{systemOf}
-use Rattle.order.specs.Multiply.{multiplyAll}
+use Rattle.order.specs.Multiply.{multiplyOne, multiplyAll}
+use Rattle.order.specs.Walk.{walk}
 use Rattle.order.proofs.InOrder.{Swaps}
-use Rattle.order.proofs.Judged.{vector-runs, vector-distinct, matrix-runs, matrix-distinct, all-inside}
+use Rattle.order.proofs.Commutes.{Commutes}
+use Rattle.order.proofs.Judged.{vector-runs, matrix-runs, all-inside}
 use Rattle.order.proofs.Multiplies.{multiplied-all}
 
-module _ (K : Kind) (L : SlabLaws K) (W : Swaps K) (uplo : UpLo) (t : Trans) (diag : Diag) (a x : Lent K) (r : Answer) (flag : Bool)
+module _ (K : Kind) (L : SlabLaws K) (W : Swaps K) (C : Commutes K) (uplo : UpLo) (t : Trans) (diag : Diag) (a x : Lent K) (r : Answer) (flag : Bool)
     (answered : r ≡ trmvCheck (a .view) (K .count (a .slab)) (x .view) (K .count (x .slab))) (told : flag ≡ isDone r) where
   pub trmv-refused : flag ≡ false → Gives K (trmv K uplo t diag a x) r (x .slab)
   unfolding trmv
   trmv-refused h = gives-refusal K _ (x .slab) _ r flag answered told h
 
   pub trmv-done : flag ≡ true → (v : View) → v ≡ columnOf (x .view) → (y : System) → y ≡ systemOf Left uplo t diag (a .view) v
-      → (after : List (K .Cell)) → after ≡ multiplyAll K y (a .slab) (λ z. z) (x .slab) → Gives K (trmv K uplo t diag a x) r after
-  unfolding trmv
+      → (after : List (K .Cell)) → after ≡ walk (y .b .rows) (λ k. multiplyOne K y (a .slab) (λ z. z) k 0) (x .slab) → Gives K (trmv K uplo t diag a x) r after
+  unfolding trmv walk
   trmv-done h v columned y made after w =
       let c = columnOf (x .view) in
       gives-work K _ (x .slab) _ r flag after answered told h
       (w
-      ∙ ap (λ (u : System). multiplyAll K u (a .slab) (λ z. z) (x .slab)) (made ∙ ap (λ (u : View). systemOf Left uplo t diag (a .view) u) columned)
-      ∙ multiplied-all K L W Left uplo t diag (a .view) (a .slab) (λ z. z) c (x .slab)
+      ∙ ap (λ (u : System). walk (u .b .rows) (λ k. multiplyOne K u (a .slab) (λ z. z) k 0) (x .slab)) (made ∙ ap (λ (u : View). systemOf Left uplo t diag (a .view) u) columned)
+      ∙ multiplied-all K L W C Left uplo t diag (a .view) (a .slab) (λ z. z) c (x .slab)
       (all-inside Left (a .view) (K .count (a .slab)) c (K .count (x .slab)) (vector-runs (a .view) (x .view) _ _ r flag answered told h c refl))
-      (vector-distinct (a .view) (x .view) _ _ r flag answered told h))
+      (vector-runs (a .view) (x .view) _ _ r flag answered told h c refl .distinct))
 
-module _ (K : Kind) (L : SlabLaws K) (W : Swaps K) (side : Side) (uplo : UpLo) (t : Trans) (diag : Diag) (alpha : K .Elem) (a b : Lent K) (r : Answer) (flag : Bool)
+module _ (K : Kind) (L : SlabLaws K) (W : Swaps K) (C : Commutes K) (side : Side) (uplo : UpLo) (t : Trans) (diag : Diag) (alpha : K .Elem) (a b : Lent K) (r : Answer) (flag : Bool)
     (answered : r ≡ trmmCheck side (a .view) (K .count (a .slab)) (b .view) (K .count (b .slab))) (told : flag ≡ isDone r) where
   pub trmm-refused : flag ≡ false → Gives K (trmm K side uplo t diag alpha a b) r (b .slab)
   unfolding trmm
@@ -58,6 +60,6 @@ module _ (K : Kind) (L : SlabLaws K) (W : Swaps K) (side : Side) (uplo : UpLo) (
       gives-work K _ (b .slab) _ r flag after answered told h
       (w
       ∙ ap (λ (u : System). multiplyAll K u (a .slab) (K .mul alpha) (b .slab)) made
-      ∙ multiplied-all K L W side uplo t diag (a .view) (a .slab) (K .mul alpha) (b .view) (b .slab)
+      ∙ multiplied-all K L W C side uplo t diag (a .view) (a .slab) (K .mul alpha) (b .view) (b .slab)
       (all-inside side (a .view) (K .count (a .slab)) (b .view) (K .count (b .slab)) (matrix-runs side (a .view) (b .view) _ _ r flag answered told h))
-      (matrix-distinct side (a .view) (b .view) _ _ r flag answered told h))
+      (matrix-runs side (a .view) (b .view) _ _ r flag answered told h .distinct))

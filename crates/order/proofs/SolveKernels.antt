@@ -21,8 +21,9 @@ use Rattle.blas.specs.Matrix.{Matrix, matrix}
 use Rattle.blas.specs.Outcome.{Outcome, Gives}
 use Rattle.blas.specs.Substitution.{attempt, substituted}
 use Rattle.blas.specs.Trsv.{trsv}
-use Rattle.blas.specs.Trsm.{timesAlpha, sidedSolve, trsm}
+use Rattle.blas.specs.Trsm.{sidedSolve, trsm}
 use Rattle.blas.proofs.OutcomeLaws.{check-done}
+use Rattle.order.specs.Triangles.{timesIf, isLeft, scaledRight}
 
 -- ---- a call that is judged first
 
@@ -63,12 +64,16 @@ module _ (K : Kind) (uplo : UpLo) (t : Trans) (diag : Diag) (a x : Lent K) (r : 
 
 -- ---- trsm
 
--- the right solve of B scaled
-pub scaled-solve : (K : Kind) (uplo : UpLo) (t : Trans) (diag : Diag) (alpha : K .Elem) (a : Matrix K) (v : View) (s s' after : List (K .Cell)) (answer : Answer)
-    → s' ≡ timesAlpha K alpha v s → Gives K (substituted K Right uplo t diag (λ b. b) a v s') answer after
-    → Gives K (sidedSolve K Right uplo t diag alpha a v s) answer after
-scaled-solve K uplo t diag alpha a v s s' after answer scaled w =
-    subst (λ (y : List (K .Cell)). Gives K (substituted K Right uplo t diag (λ b. b) a v y) answer after) scaled w
+-- the solve of a side
+pub sided-gives : (K : Kind) (side : Side) (uplo : UpLo) (t : Trans) (diag : Diag) (alpha : K .Elem) (a : Matrix K) (v : View) (times : Bool) (s s' after : List (K .Cell)) (answer : Answer)
+    → s' ≡ scaledRight K side alpha v s → times ≡ isLeft side → Gives K (substituted K side uplo t diag (timesIf K times alpha) a v s') answer after
+    → Gives K (sidedSolve K side uplo t diag alpha a v s) answer after
+sided-gives K Left uplo t diag alpha a v times s s' after answer scaled told w =
+    subst (λ (y : List (K .Cell)). Gives K (substituted K Left uplo t diag (K .mul alpha) a v y) answer after) scaled
+    (subst (λ (b : Bool). Gives K (substituted K Left uplo t diag (timesIf K b alpha) a v s') answer after) told w)
+sided-gives K Right uplo t diag alpha a v times s s' after answer scaled told w =
+    subst (λ (y : List (K .Cell)). Gives K (substituted K Right uplo t diag (λ b. b) a v y) answer after) scaled
+    (subst (λ (b : Bool). Gives K (substituted K Right uplo t diag (timesIf K b alpha) a v s') answer after) told w)
 
 module _ (K : Kind) (side : Side) (uplo : UpLo) (t : Trans) (diag : Diag) (alpha : K .Elem) (a b : Lent K) (r : Answer) (flag : Bool)
     (answered : r ≡ trsmCheck side (a .view) (K .count (a .slab)) (b .view) (K .count (b .slab))) (told : flag ≡ isDone r) where

@@ -6,10 +6,11 @@ use mathlib.Core.Path.{_≡_, refl, ap, sym, subst, _∙_}
 use native.Mathlib.Decide.{ℕ-discrete}
 use native.Mathlib.Nat.{mul-comm}
 use native.Mathlib.Omega.{arith}
-use borrow.Author.Tests.{lt-ltb, le-ltb, ltb-true}
+use borrow.Author.Tests.{lt-ltb, le-ltb, ltb-true, ltb-false}
 use lib.Arith.{digits-lt, digits-div, digits-mod}
 use lib.Dec.{ltb}
 use Rattle.number.specs.Kind.{Kind}
+use Rattle.number.specs.Laws.{SlabLaws}
 use Rattle.view.specs.declared.View.{View}
 use Rattle.view.specs.declared.Answer.{Answer}
 use Rattle.view.specs.declared.Answer.the-variants.{Done, Singular}
@@ -20,11 +21,12 @@ use Rattle.view.specs.declared.UpLo.{UpLo}
 use Rattle.view.specs.declared.Diag.{Diag}
 use Rattle.view.specs.declared.Diag.the-variants.{NonUnit, Unit}
 use Rattle.view.specs.Any.{any}
-use Rattle.view.specs.AnyLaws.{found, finds, and-both, and-left, and-right, and-no-left, is-false, clash}
+use Rattle.view.specs.AnyLaws.{found, finds, and-both, and-left, and-right, is-false, clash}
 use Rattle.view.specs.Checks.{orderOf}
 use Rattle.view.specs.Judge.{answerNumber}
 use Rattle.view.specs.Place.{index}
 use Rattle.slab.specs.Elem.{elem}
+use Rattle.slab.specs.Distinct.{Distinct}
 use Rattle.blas.specs.Matrix.{Matrix, op}
 use Rattle.blas.specs.Outcome.{Outcome, Gives}
 use Rattle.blas.specs.Substitution.{unknownAt, unknown, brings, lastFirst, inOrder, leastSolved, turnOf, lineOf, elementsBefore, firstAt, less, byPivot, zeroPivot, solved, singular, substituted}
@@ -32,10 +34,13 @@ use Rattle.blas.specs.Substitution as substitution
 use Rattle.blas.proofs.SubstitutionLaws.{in-order-lt, in-order-twice, first-is, first-none, first-lt, first-true, factor-pos}
 use Rattle.order.specs.declared.System.{System}
 use Rattle.order.specs.Walk.{walk}
-use Rattle.order.specs.Triangles.{linesView, systemOf, coefficient, weigh}
+use Rattle.order.specs.Triangles.{linesView, systemOf, coefficient}
 use Rattle.order.specs.Multiply.{turn, line}
-use Rattle.order.specs.Solve.{byDiag, zeroDiag, solveOne, solveLine, solveAcross, zeroAfter, firstZero, stops, Solved, SolvedLeft, SolvedRight}
-use Rattle.order.proofs.WalkLaws.{walk-start, walk-end, walk-add, walk-cong, walk-nested}
+use Rattle.order.specs.Solve.{byDiag, zeroDiag, solveOne, solveUnknowns, zeroAfter, firstZero, stops, answered, linesSolved, Solved}
+use Rattle.order.proofs.WalkLaws.{walk-cong, walk-nested, walk-rounds}
+use Rattle.order.proofs.InOrder.{Swaps}
+use Rattle.order.proofs.Commutes.{Commutes}
+use Rattle.order.proofs.Lines.{line-after-line}
 use Rattle.order.proofs.Systems.{opSided, coefficient-is, diagonal-is, lines-index, lines-elem}
 
 -- ---- the first number at which a test passes, as a loop that counts by one meets it
@@ -72,19 +77,19 @@ first-nowhere f n m k e h g cleared =
 module _ (K : Kind) (y : System) (a : List (K .Cell)) where
   pub solve-one-is : (start : K .Elem → K .Elem) (k l m q from n : ℕ) (w x r z : K .Elem) (s s' : List (K .Cell)) → m ≡ y .b .rows → q ≡ inOrder (y .last) m k
       → from ≡ leastSolved (y .last) m k → w ≡ elem K s (y .b) q l → x ≡ start w
-      → r ≡ less K x (λ p. weigh K (y .side) (coefficient K y a q p) (elem K s (y .b) p l)) from k → z ≡ byDiag K (y .diag) (coefficient K y a q q) r
+      → r ≡ less K x (λ p. K .mul (coefficient K y a q p) (elem K s (y .b) p l)) from k → z ≡ byDiag K (y .diag) (coefficient K y a q q) r
       → n ≡ index (y .b) q l → s' ≡ K .put s n z → s' ≡ solveOne K y start a k l s
   unfolding solveOne
   solve-one-is start k l m q from n w x r z s s' counted here there taken started rest divided placed e =
       e
-      ∙ (λ i. K .put s (placed i) ((divided ∙ ap (byDiag K (y .diag) (coefficient K y a q q)) (rest ∙ ap (λ (v : K .Elem). less K v (λ p. weigh K (y .side) (coefficient K y a q p) (elem K s (y .b) p l)) from k) (started ∙ ap start taken))) i))
+      ∙ (λ i. K .put s (placed i) ((divided ∙ ap (byDiag K (y .diag) (coefficient K y a q q)) (rest ∙ ap (λ (v : K .Elem). less K v (λ p. K .mul (coefficient K y a q p) (elem K s (y .b) p l)) from k) (started ∙ ap start taken))) i))
       ∙ (λ i. value (here i) (there i))
       ∙ ap (λ (c : ℕ). value (inOrder (y .last) c k) (leastSolved (y .last) c k)) counted
     where
       value : ℕ → ℕ → List (K .Cell)
       value u f =
           K .put s (index (y .b) u l)
-          (byDiag K (y .diag) (coefficient K y a u u) (less K (start (elem K s (y .b) u l)) (λ p. weigh K (y .side) (coefficient K y a u p) (elem K s (y .b) p l)) f k))
+          (byDiag K (y .diag) (coefficient K y a u u) (less K (start (elem K s (y .b) u l)) (λ p. K .mul (coefficient K y a u p) (elem K s (y .b) p l)) f k))
 
   pub meets-is : (k m q : ℕ) (b : Bool) → m ≡ y .b .rows → q ≡ inOrder (y .last) m k → b ≡ zeroDiag K (y .diag) (elem K a (y .a) q q) → b ≡ zeroAfter K y a k
   unfolding zeroAfter
@@ -109,9 +114,9 @@ same-pivot : (K : Kind) (side : Side) (t : Trans) (a : Matrix K) (q : ℕ) → o
 same-pivot K Left t a q = refl
 same-pivot K Right t a q = refl
 
-weigh-is : (K : Kind) (side : Side) (t : Trans) (a : Matrix K) (q p : ℕ) (c x z : K .Elem) → c ≡ opSided K side t a q p → x ≡ z → weigh K side c x ≡ brings K side t a q p z
-weigh-is K Left t a q p c x z e h = λ i. K .mul (e i) (h i)
-weigh-is K Right t a q p c x z e h = λ i. K .mul (h i) (e i)
+brings-is : (K : Kind) (C : Commutes K) (side : Side) (t : Trans) (a : Matrix K) (q p : ℕ) (c x z : K .Elem) → c ≡ opSided K side t a q p → x ≡ z → K .mul c x ≡ brings K side t a q p z
+brings-is K C Left t a q p c x z e h = λ i. K .mul (e i) (h i)
+brings-is K C Right t a q p c x z e h = C .commutes c x ∙ (λ i. K .mul (h i) (e i))
 
 module _ (K : Kind) (side : Side) (uplo : UpLo) (t : Trans) (diag : Diag) (start : K .Elem → K .Elem) (va vb : View) (sa : List (K .Cell)) where
   abbrev y : System
@@ -126,27 +131,27 @@ module _ (K : Kind) (side : Side) (uplo : UpLo) (t : Trans) (diag : Diag) (start
   abbrev m : ℕ
   m = orderOf side vb
 
-  one-is : (k l : ℕ) (s : List (K .Cell)) → solveOne K y start sa k l s ≡ substitution.solveOne K side uplo t diag start a vb k l s
+  one-is : (C : Commutes K) (k l : ℕ) (s : List (K .Cell)) → solveOne K y start sa k l s ≡ substitution.solveOne K side uplo t diag start a vb k l s
   unfolding solveOne substitution.solveOne
-  one-is k l s = ap from-order (order-is side vb) ∙ at-order (inOrder last m k) (leastSolved last m k)
+  one-is C k l s = ap from-order (order-is side vb) ∙ at-order (inOrder last m k) (leastSolved last m k)
     where
       from-order : ℕ → List (K .Cell)
       from-order c =
           K .put s (index (linesView side vb) (inOrder last c k) l)
           (byDiag K diag (coefficient K y sa (inOrder last c k) (inOrder last c k))
           (less K (start (elem K s (linesView side vb) (inOrder last c k) l))
-          (λ p. weigh K side (coefficient K y sa (inOrder last c k) p) (elem K s (linesView side vb) p l))
+          (λ p. K .mul (coefficient K y sa (inOrder last c k) p) (elem K s (linesView side vb) p l))
           (leastSolved last c k) k))
 
       at-order : (q from : ℕ)
           → K .put s (index (linesView side vb) q l)
-          (byDiag K diag (coefficient K y sa q q) (less K (start (elem K s (linesView side vb) q l)) (λ p. weigh K side (coefficient K y sa q p) (elem K s (linesView side vb) p l)) from k))
+          (byDiag K diag (coefficient K y sa q q) (less K (start (elem K s (linesView side vb) q l)) (λ p. K .mul (coefficient K y sa q p) (elem K s (linesView side vb) p l)) from k))
           ≡ K .put s (unknownAt side vb q l) (byPivot K diag t a q (less K (start (unknown K side s vb q l)) (λ p. brings K side t a q p (unknown K side s vb p l)) from k))
       at-order q from =
           λ i. K .put s (lines-index side vb q l i)
           (by-diag-is K diag t a q _ _ _ (coefficient-is K uplo t diag va vb sa side q q ∙ same-pivot K side t a q)
           (λ j. less K (start (lines-elem K s side vb q l j))
-          (λ p. weigh-is K side t a q p _ _ _ (coefficient-is K uplo t diag va vb sa side q p) (lines-elem K s side vb p l) j) from k)
+          (λ p. brings-is K C side t a q p _ _ _ (coefficient-is K uplo t diag va vb sa side q p) (lines-elem K s side vb p l) j) from k)
           i)
 
   zero-is : (k : ℕ) → zeroAfter K y sa k ≡ zeroPivot K diag a (inOrder last m k)
@@ -178,7 +183,7 @@ line-digits : (side : Side) (v : View) (o i : ℕ) → i < v .rows → lineOf si
 line-digits Left v o i h = digits-div o h
 line-digits Right v o i h = digits-mod o h
 
-module _ (K : Kind) (side : Side) (uplo : UpLo) (t : Trans) (diag : Diag) (start : K .Elem → K .Elem) (va vb : View) (sa s₀ : List (K .Cell)) where
+module _ (K : Kind) (C : Commutes K) (side : Side) (uplo : UpLo) (t : Trans) (diag : Diag) (start : K .Elem → K .Elem) (va vb : View) (sa s₀ : List (K .Cell)) where
   abbrev sys : System
   sys = systemOf side uplo t diag va vb
 
@@ -188,7 +193,7 @@ module _ (K : Kind) (side : Side) (uplo : UpLo) (t : Trans) (diag : Diag) (start
   digit-is : (o i : ℕ) → i < vb .rows → (s : List (K .Cell))
       → solveOne K sys start sa (turn side i o) (line side i o) s ≡ nth K side uplo t diag start va vb sa (o * vb .rows + i) s
   digit-is o i h s =
-      one-is K side uplo t diag start va vb sa (turn side i o) (line side i o) s
+      one-is K side uplo t diag start va vb sa C (turn side i o) (line side i o) s
       ∙ (λ j. substitution.solveOne K side uplo t diag start mat vb (sym (turn-digits side vb o i h) j) (sym (line-digits side vb o i h) j) s)
 
   -- c columns of B
@@ -220,6 +225,11 @@ module _ (K : Kind) (x z : Outcome K) (r : Answer) (s : List (K .Cell)) where
   gives-second true e g = absurd (clash refl e)
   gives-second false e g = g
 
+-- what a solve answers and leaves, by whether it stops
+record Ends (K : Kind) (y : System) (a : List (K .Cell)) (reached : ℕ → List (K .Cell)) (whole : List (K .Cell)) (r : Answer) (s : List (K .Cell)) : Type 0 where
+  answer : r ≡ answered (stops y (firstZero K y a))
+  slab : s ≡ cond (stops y (firstZero K y a)) (reached (firstZero K y a)) whole
+
 -- there are elements where there are unknowns and lines
 some-elements : (side : Side) (v : View) (k : ℕ) → k < (linesView side v) .rows → 0 < (linesView side v) .cols → 0 < v .rows * v .cols
 some-elements Left v k h g = let w : 0 * v .cols + 0 < v .rows * v .cols = digits-lt (omega arith) g in omega (arith, w)
@@ -233,7 +243,7 @@ module _ (K : Kind) (side : Side) (uplo : UpLo) (t : Trans) (diag : Diag) (start
     (reached : ℕ → List (K .Cell)) (whole : List (K .Cell))
     (reaches : (k : ℕ) → k < (linesView side vb) .rows → reached k ≡ solved K side uplo t diag start (elem K sa va) vb (elementsBefore side vb k) s₀)
     (wholly : whole ≡ solved K side uplo t diag start (elem K sa va) vb (vb .rows * vb .cols) s₀)
-    (r : Answer) (s : List (K .Cell)) (h : Solved K (systemOf side uplo t diag va vb) sa reached whole r s) where
+    (r : Answer) (s : List (K .Cell)) (h : Ends K (systemOf side uplo t diag va vb) sa reached whole r s) where
   abbrev sys' : System
   sys' = systemOf side uplo t diag va vb
 
@@ -281,7 +291,7 @@ module _ (K : Kind) (side : Side) (uplo : UpLo) (t : Trans) (diag : Diag) (start
     gives-stop =
         gives-first K _ _ r s (singular K side uplo t diag start mat' vb) is-singular
         (record {
-          answer = ap answerNumber (h .answer ∙ ap (λ (b : Bool). cond b Singular Done) e);
+          answer = ap answerNumber (h .answer ∙ ap answered e);
           slab =
               h .slab
               ∙ ap (λ (b : Bool). cond b (reached first) whole) e
@@ -311,7 +321,7 @@ module _ (K : Kind) (side : Side) (uplo : UpLo) (t : Trans) (diag : Diag) (start
     gives-all =
         gives-second K _ _ r s (singular K side uplo t diag start mat' vb) not-singular
         (record {
-          answer = ap answerNumber (h .answer ∙ ap (λ (b : Bool). cond b Singular Done) e);
+          answer = ap answerNumber (h .answer ∙ ap answered e);
           slab = h .slab ∙ ap (λ (b : Bool). cond b (reached first) whole) e ∙ wholly;
         })
 
@@ -322,30 +332,7 @@ module _ (K : Kind) (side : Side) (uplo : UpLo) (t : Trans) (diag : Diag) (start
       go true e = gives-stop e
       go false e = gives-all e
 
-module _ (K : Kind) (uplo : UpLo) (t : Trans) (diag : Diag) (start : K .Elem → K .Elem) (va vb : View) (y : System) (sa s₀ : List (K .Cell)) (r : Answer) (s : List (K .Cell)) where
-  pub left-gives : y ≡ systemOf Left uplo t diag va vb → SolvedLeft K y start sa s₀ r s → Gives K (substituted K Left uplo t diag start (elem K sa va) vb s₀) r s
-  left-gives made h =
-      solve-gives K Left uplo t diag start va vb sa s₀
-      (λ k. solveLine K (systemOf Left uplo t diag va vb) start sa 0 k s₀)
-      (walk (vb .cols) (λ l. solveLine K (systemOf Left uplo t diag va vb) start sa l (vb .rows)) s₀)
-      (λ k g. begun-is K Left uplo t diag start va vb sa s₀ k (omega arith))
-      (columns-are K Left uplo t diag start va vb sa s₀ (vb .cols) ∙ ap (λ (n : ℕ). solved K Left uplo t diag start (elem K sa va) vb n s₀) (mul-comm (vb .cols) (vb .rows)))
-      r
-      s
-      (subst (λ (x : System). SolvedLeft K x start sa s₀ r s) made h)
-
-  pub right-gives : y ≡ systemOf Right uplo t diag va vb → SolvedRight K y start sa s₀ r s → Gives K (substituted K Right uplo t diag start (elem K sa va) vb s₀) r s
-  right-gives made h =
-      solve-gives K Right uplo t diag start va vb sa s₀
-      (λ k. walk k (solveAcross K (systemOf Right uplo t diag va vb) start sa) s₀)
-      (walk (vb .cols) (solveAcross K (systemOf Right uplo t diag va vb) start sa) s₀)
-      (λ k g. columns-are K Right uplo t diag start va vb sa s₀ k)
-      (columns-are K Right uplo t diag start va vb sa s₀ (vb .cols) ∙ ap (λ (n : ℕ). solved K Right uplo t diag start (elem K sa va) vb n s₀) (mul-comm (vb .cols) (vb .rows)))
-      r
-      s
-      (subst (λ (x : System). SolvedRight K x start sa s₀ r s) made h)
-
--- ---- the ways out of the two solves
+-- ---- how far a solve goes
 
 first-le : (n : ℕ) (f : ℕ → Bool) → firstAt n f ≤ n
 unfolding firstAt
@@ -356,91 +343,123 @@ first-le (suc n) f = go (f 0) (first-le n (λ k. f (suc k)))
     go true h = omega arith
     go false h = omega arith
 
+module _ (K : Kind) (y : System) (a : List (K .Cell)) where
+  abbrev reach : ℕ
+  reach = firstZero K y a
+
+  reach-le : reach ≤ y .b .rows
+  reach-le = first-le (y .b .rows) (zeroAfter K y a)
+
+  pub unknowns-in : (k : ℕ) → k ≡ firstZero K y a → k ≤ y .b .rows
+  unknowns-in k met = subst (λ (n : ℕ). n ≤ y .b .rows) (sym met) reach-le
+
+  stops-below : 0 < y .b .cols → reach < y .b .rows → stops y reach ≡ true
+  unfolding stops
+  stops-below h g = and-both (ltb 0 (y .b .cols)) (ltb reach (y .b .rows)) (lt-ltb 0 (y .b .cols) h) (lt-ltb reach (y .b .rows) g)
+
+  stops-not : y .b .rows ≤ reach → stops y reach ≡ false
+  unfolding stops
+  stops-not g =
+      is-false (ltb 0 (y .b .cols) && ltb reach (y .b .rows))
+      (λ e. clash (and-right (ltb 0 (y .b .cols)) (ltb reach (y .b .rows)) e) (le-ltb reach (y .b .rows) g))
+
+  -- one that does not stop has solved all unknowns, if there is a line
+  all-solved : stops y reach ≡ false → (l : ℕ) → l < y .b .cols → reach ≡ y .b .rows
+  all-solved e l h =
+      both reach-le
+      (ltb-false reach (y .b .rows) (is-false (ltb reach (y .b .rows)) (λ g. clash (stops-below (some h) (ltb-true reach (y .b .rows) g)) e)))
+    where
+      some : l < y .b .cols → 0 < y .b .cols
+      some h = omega arith
+
+      both : reach ≤ y .b .rows → y .b .rows ≤ reach → reach ≡ y .b .rows
+      both g h = omega arith
+
+-- ---- a solve by lines is the definition's
+
+module _ (K : Kind) (C : Commutes K) (uplo : UpLo) (t : Trans) (diag : Diag) (start : K .Elem → K .Elem) (va vb : View) (sa s₀ : List (K .Cell)) (r : Answer) (s : List (K .Cell)) where
+  abbrev leftly : System
+  leftly = systemOf Left uplo t diag va vb
+
+  abbrev rightly : System
+  rightly = systemOf Right uplo t diag va vb
+
+  left-gives : SlabLaws K → Swaps K → Distinct vb → Solved K leftly start sa s₀ r s → Gives K (substituted K Left uplo t diag start (elem K sa va) vb s₀) r s
+  unfolding walk
+  left-gives L W apart h =
+      solve-gives K Left uplo t diag start va vb sa s₀
+      (λ k. walk k (λ i. solveOne K leftly start sa i 0) s₀)
+      (walk (vb .cols) (λ l. walk (vb .rows) (λ k. solveOne K leftly start sa k l)) s₀)
+      (λ k g. begun-is K C Left uplo t diag start va vb sa s₀ k (omega arith))
+      (columns-are K C Left uplo t diag start va vb sa s₀ (vb .cols) ∙ ap (λ (n : ℕ). solved K Left uplo t diag start (elem K sa va) vb n s₀) (mul-comm (vb .cols) (vb .rows)))
+      r
+      s
+      (record { answer = h .answer; slab = h .slab ∙ by-lines (stops leftly (reach K leftly sa)) refl })
+    where
+      by-lines : (b : Bool) → stops leftly (reach K leftly sa) ≡ b → solveUnknowns K leftly start sa (linesSolved Left b (vb .cols)) (reach K leftly sa) s₀
+          ≡ cond b (walk (reach K leftly sa) (λ i. solveOne K leftly start sa i 0) s₀) (walk (vb .cols) (λ l. walk (vb .rows) (λ k. solveOne K leftly start sa k l)) s₀)
+      by-lines true e = refl
+      by-lines false e =
+          line-after-line K L W leftly start sa apart (reach K leftly sa) (reach-le K leftly sa) s₀
+          ∙ walk-cong (λ l. walk (reach K leftly sa) (λ k. solveOne K leftly start sa k l)) (λ l. walk (vb .rows) (λ k. solveOne K leftly start sa k l)) (vb .cols)
+          (λ l h q. ap (λ (n : ℕ). walk n (λ k. solveOne K leftly start sa k l) q) (all-solved K leftly sa e l h))
+          s₀
+
+  right-gives : Solved K rightly start sa s₀ r s → Gives K (substituted K Right uplo t diag start (elem K sa va) vb s₀) r s
+  right-gives h =
+      solve-gives K Right uplo t diag start va vb sa s₀
+      (λ k. solveUnknowns K rightly start sa (vb .rows) k s₀)
+      (solveUnknowns K rightly start sa (vb .rows) (vb .cols) s₀)
+      (λ k g. columns-are K C Right uplo t diag start va vb sa s₀ k)
+      (columns-are K C Right uplo t diag start va vb sa s₀ (vb .cols) ∙ ap (λ (n : ℕ). solved K Right uplo t diag start (elem K sa va) vb n s₀) (mul-comm (vb .cols) (vb .rows)))
+      r
+      s
+      (record { answer = h .answer; slab = h .slab ∙ by-unknowns (stops rightly (reach K rightly sa)) refl })
+    where
+      by-unknowns : (b : Bool) → stops rightly (reach K rightly sa) ≡ b → solveUnknowns K rightly start sa (vb .rows) (reach K rightly sa) s₀
+          ≡ cond b (solveUnknowns K rightly start sa (vb .rows) (reach K rightly sa) s₀) (solveUnknowns K rightly start sa (vb .rows) (vb .cols) s₀)
+      by-unknowns true e = refl
+      by-unknowns false e = walk-rounds (solveOne K rightly start sa) (reach K rightly sa) (vb .cols) (vb .rows) (all-solved K rightly sa e) s₀
+
+  pub solved-gives : SlabLaws K → Swaps K → (side : Side) (y : System) → y ≡ systemOf side uplo t diag va vb → Distinct vb → Solved K y start sa s₀ r s
+      → Gives K (substituted K side uplo t diag start (elem K sa va) vb s₀) r s
+  solved-gives L W Left y made apart h = left-gives L W apart (subst (λ (x : System). Solved K x start sa s₀ r s) made h)
+  solved-gives L W Right y made apart h = right-gives (subst (λ (x : System). Solved K x start sa s₀ r s) made h)
+
+-- ---- the ways out of a solve
+
+-- the lines that are solved are lines of B
+pub lines-in : (side : Side) (y : System) (k n c : ℕ) (b : Bool) → b ≡ stops y k → n ≡ y .b .cols → c ≡ linesSolved side b n → c ≤ y .b .cols
+unfolding stops
+lines-in Left y k n c true told wide e =
+    let h : 0 < y .b .cols = ltb-true 0 (y .b .cols) (and-left (ltb 0 (y .b .cols)) (ltb k (y .b .rows)) (sym told)) in
+    omega (arith, h, e)
+lines-in Left y k n c false told wide e = omega arith
+lines-in Right y k n c b told wide e = omega arith
+
 module _ (K : Kind) (y : System) (start : K .Elem → K .Elem) (a s₀ : List (K .Cell)) where
-  -- by whether it stops
-  at-stop : (reached : ℕ → List (K .Cell)) (whole s : List (K .Cell)) → stops y (firstZero K y a) ≡ true → s ≡ reached (firstZero K y a) → Solved K y a reached whole Singular s
-  at-stop reached whole s e h = record {
-    answer = sym (ap (λ (b : Bool). cond b Singular Done) e);
-    slab = h ∙ sym (ap (λ (b : Bool). cond b (reached (firstZero K y a)) whole) e);
-  }
+  pub lines-solved : (k n c : ℕ) (b : Bool) (r : Answer) (s : List (K .Cell)) → k ≡ firstZero K y a → b ≡ stops y k → n ≡ y .b .cols → c ≡ linesSolved (y .side) b n
+      → r ≡ answered b → s ≡ solveUnknowns K y start a c k s₀ → Solved K y start a s₀ r s
+  lines-solved k n c b r s met told wide counted answers e =
+      let t : b ≡ stops y (firstZero K y a) = told ∙ ap (stops y) met in
+      record {
+        answer = answers ∙ ap answered t;
+        slab = e ∙ (λ i. solveUnknowns K y start a ((counted ∙ (λ j. linesSolved (y .side) (t j) (wide j))) i) (met i) s₀);
+      }
 
-  at-end : (reached : ℕ → List (K .Cell)) (whole s : List (K .Cell)) → stops y (firstZero K y a) ≡ false → s ≡ whole → Solved K y a reached whole Done s
-  at-end reached whole s e h = record {
-    answer = sym (ap (λ (b : Bool). cond b Singular Done) e);
-    slab = h ∙ sym (ap (λ (b : Bool). cond b (reached (firstZero K y a)) whole) e);
-  }
+  -- a vector, of one line
+  module _ (k m : ℕ) (s : List (K .Cell)) (one : y .b .cols ≡ 1) (counted : m ≡ y .b .rows) (met : k ≡ firstZero K y a) (e : s ≡ walk k (λ i. solveOne K y start a i 0) s₀) where
+    one-line : (side : Side) (b : Bool) → 1 ≡ linesSolved side b (y .b .cols)
+    one-line Left true = refl
+    one-line Left false = sym one
+    one-line Right b = sym one
 
-  module _ (c : ℕ) (wide : c ≡ y .b .cols) where
-    -- no lines
-    module _ (h : c ≤ 0) where
-      none : stops y (firstZero K y a) ≡ false
-      unfolding stops
-      none = and-no-left (ltb 0 (y .b .cols)) (ltb (firstZero K y a) (y .b .rows)) (le-ltb 0 (y .b .cols) (omega arith))
+    vector-left : s ≡ solveUnknowns K y start a (linesSolved (y .side) (stops y (firstZero K y a)) (y .b .cols)) (firstZero K y a) s₀
+    unfolding walk
+    vector-left = e ∙ (λ i. solveUnknowns K y start a (one-line (y .side) (stops y (firstZero K y a)) i) (met i) s₀)
 
-      pub left-none : SolvedLeft K y start a s₀ Done s₀
-      left-none = at-end _ _ s₀ none (walk-end (λ l. solveLine K y start a l (y .b .rows)) s₀ 0 (y .b .cols) s₀ (omega arith) (omega arith) (walk-start _ s₀))
+    pub vector-stopped : k < m → Solved K y start a s₀ Singular s
+    vector-stopped h = record { answer = sym (ap answered (stops-below K y a (omega arith) (omega (arith, h, met, counted)))); slab = vector-left }
 
-      pub right-none : SolvedRight K y start a s₀ Done s₀
-      unfolding walk
-      right-none = at-end _ _ s₀ none (still (y .b .rows))
-        where
-          across : (k : ℕ) (s : List (K .Cell)) → s ≡ solveAcross K y start a k s
-          across k s = walk-end (λ l. solveOne K y start a k l) s 0 (y .b .cols) s (omega arith) (omega arith) (walk-start (λ l. solveOne K y start a k l) s)
-
-          still : (n : ℕ) → s₀ ≡ walk n (solveAcross K y start a) s₀
-          still zero = refl
-          still (suc n) = still n ∙ across n _
-
-    module _ (h : 0 < c) (m k : ℕ) (counted : m ≡ y .b .rows) (met : k ≡ firstZero K y a) where
-      -- a zero pivot
-      module _ (g : k < m) where
-        stopped : stops y (firstZero K y a) ≡ true
-        unfolding stops
-        stopped =
-            and-both (ltb 0 (y .b .cols)) (ltb (firstZero K y a) (y .b .rows)) (lt-ltb 0 (y .b .cols) (omega arith))
-            (subst (λ (n : ℕ). ltb n (y .b .rows) ≡ true) met (lt-ltb k (y .b .rows) (omega arith)))
-
-        pub left-stopped : (s : List (K .Cell)) → s ≡ solveLine K y start a 0 k s₀ → SolvedLeft K y start a s₀ Singular s
-        left-stopped s e = at-stop _ _ s stopped (e ∙ ap (λ (n : ℕ). solveLine K y start a 0 n s₀) met)
-
-        pub right-stopped : (s : List (K .Cell)) → s ≡ walk k (solveAcross K y start a) s₀ → SolvedRight K y start a s₀ Singular s
-        right-stopped s e = at-stop _ _ s stopped (e ∙ ap (λ (n : ℕ). walk n (solveAcross K y start a) s₀) met)
-
-      -- none
-      module _ (g : m ≤ k) where
-        all-of-them : k ≡ y .b .rows
-        all-of-them = let w : k ≤ y .b .rows = subst (λ (n : ℕ). n ≤ y .b .rows) (sym met) (first-le (y .b .rows) (zeroAfter K y a)) in omega arith
-
-        ended : stops y (firstZero K y a) ≡ false
-        unfolding stops
-        ended =
-            is-false (ltb 0 (y .b .cols) && ltb (firstZero K y a) (y .b .rows))
-            (λ e. let w : firstZero K y a < y .b .rows = ltb-true (firstZero K y a) (y .b .rows) (and-right (ltb 0 (y .b .cols)) (ltb (firstZero K y a) (y .b .rows)) e) in below w)
-          where
-            below : firstZero K y a < y .b .rows → ⊥
-            below w = omega (arith, w, met, all-of-them)
-
-        pub left-done : (s s' : List (K .Cell)) → s ≡ solveLine K y start a 0 k s₀ → s' ≡ walk (y .b .cols - 1) (λ l. solveLine K y start a (l + 1) (y .b .rows)) s → SolvedLeft K y start a s₀ Done s'
-        unfolding walk
-        left-done s s' first others =
-            at-end _ _ s' ended
-            (others
-            ∙ ap (walk (y .b .cols - 1) (λ l. line (l + 1))) (first ∙ ap (λ (n : ℕ). solveLine K y start a 0 n s₀) all-of-them ∙ one)
-            ∙ walk-cong (λ l. line (l + 1)) (λ l. line (1 + l)) (y .b .cols - 1) (λ l b t. ap (λ (n : ℕ). line n t) (after l)) (walk 1 line s₀)
-            ∙ walk-add line s₀ 1 (y .b .cols - 1)
-            ∙ ap (λ (n : ℕ). walk n line s₀) lines)
-          where
-            line : ℕ → List (K .Cell) → List (K .Cell)
-            line l = solveLine K y start a l (y .b .rows)
-
-            one : line 0 s₀ ≡ walk 1 line s₀
-            one = refl
-
-            after : (l : ℕ) → l + 1 ≡ 1 + l
-            after l = omega arith
-
-            lines : 1 + (y .b .cols - 1) ≡ y .b .cols
-            lines = omega arith
-
-        pub right-done : (s : List (K .Cell)) → s ≡ walk k (solveAcross K y start a) s₀ → SolvedRight K y start a s₀ Done s
-        right-done s e = at-end _ _ s ended (e ∙ ap (λ (n : ℕ). walk n (solveAcross K y start a) s₀) all-of-them)
+    pub vector-done : m ≤ k → Solved K y start a s₀ Done s
+    vector-done h = record { answer = sym (ap answered (stops-not K y a (omega (arith, h, met, counted)))); slab = vector-left }

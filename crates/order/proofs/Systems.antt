@@ -15,13 +15,14 @@ use Rattle.view.specs.declared.Side.the-variants.{Left, Right}
 use Rattle.view.specs.Place.{index, opViewOf, isConj}
 use Rattle.view.specs.TransposeLaws.{transposed-index, transposed-accepted, op-accepted}
 use Rattle.view.specs.Steps.{Accepted}
+use Rattle.view.specs.Vector.{columnOf}
 use Rattle.slab.specs.Elem.{elem, Shows}
 use Rattle.slab.specs.Run.{Spans}
 use Rattle.blas.specs.Matrix.{Matrix, op}
 use Rattle.blas.specs.Substitution.{unknownAt, unknown}
 use Rattle.blas.proofs.OpLaws.{op-elem, transposed-elem}
 use Rattle.order.specs.declared.System.{System}
-use Rattle.order.specs.Triangles.{linesView, systemOf, coefficient, weigh}
+use Rattle.order.specs.Triangles.{linesView, systemOf, coefficient}
 use Rattle.order.specs.Multiply as multiply
 use Rattle.order.specs.Ready.{Pivots, Ready, ReadyAt, Sided}
 
@@ -57,8 +58,8 @@ pub lines-elem : (K : Kind) (s : List (K .Cell)) (side : Side) (v : View) (p l :
 lines-elem K s side v p l = ap (K .at s) (lines-index side v p l)
 
 -- a product of what was read
-pub weighed : (K : Kind) (side : Side) (c c' x x' z : K .Elem) → c ≡ c' → x ≡ x' → z ≡ weigh K side c x → z ≡ weigh K side c' x'
-weighed K side c c' x x' z h g e = e ∙ (λ i. weigh K side (h i) (g i))
+pub weighed : (K : Kind) (c c' x x' z : K .Elem) → c ≡ c' → x ≡ x' → z ≡ K .mul c x → z ≡ K .mul c' x'
+weighed K c c' x x' z h g e = e ∙ (λ i. K .mul (h i) (g i))
 
 -- ---- that it is inside
 
@@ -103,6 +104,10 @@ module _ (uplo : UpLo) (t : Trans) (diag : Diag) (va : View) (la : ℕ) (vb : Vi
   pub ready-made : (side : Side) (y : System) (lb' : ℕ) → Sided side va la vb lb → y ≡ systemOf side uplo t diag va vb → lb' ≡ lb → Ready y la lb'
   ready-made side y lb' s made kept =
       subst (λ (x : System). Ready x la lb') (sym made) (subst (λ (n : ℕ). Ready (systemOf side uplo t diag va vb) la n) (sym kept) (ready-of side s))
+
+-- a vector is one line
+pub one-line : (uplo : UpLo) (t : Trans) (diag : Diag) (a v x : View) (y : System) → v ≡ columnOf x → y ≡ systemOf Left uplo t diag a v → y .b .cols ≡ 1
+one-line uplo t diag a v x y columned made = ap (λ (z : System). z .b .cols) made ∙ ap (λ (z : View). z .cols) columned
 
 module _ (y : System) (la lb : ℕ) where
   -- on a slab that keeps its length

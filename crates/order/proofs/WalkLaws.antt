@@ -1,6 +1,6 @@
 -- Steps one after another: as a loop meets them, in two parts, and a loop in a loop.
 use Prim.Native.Nat.{ℕ, zero, suc, _+_, _*_, _≤_, _<_}
-use mathlib.Core.Path.{_≡_, refl, ap, subst, _∙_}
+use mathlib.Core.Path.{_≡_, refl, ap, sym, subst, _∙_}
 use native.Mathlib.Numerals.{add-one}
 use native.Mathlib.Omega.{arith}
 use Rattle.order.specs.Walk.{walk}
@@ -45,3 +45,41 @@ walk-nested f m zero s =
 walk-nested f m (suc c) s =
     let e : c * m + m ≡ suc c * m = omega arith in
     ap (walk m (λ i. f (c * m + i))) (walk-nested f m c s) ∙ walk-add f s (c * m) m ∙ ap (λ (k : ℕ). walk k f s) e
+
+-- ---- steps that pass each other
+
+-- f passes every step
+walk-pass : {A : Type 0} (f : A → A) (g : ℕ → A → A) (n : ℕ) → ((i : ℕ) → i < n → (s : A) → f (g i s) ≡ g i (f s)) → (s : A) → f (walk n g s) ≡ walk n g (f s)
+unfolding walk
+walk-pass f g zero h s = refl
+walk-pass f g (suc n) h s = h n (omega arith) (walk n g s) ∙ ap (g n) (walk-pass f g n (λ i l. h i (omega arith)) s)
+
+-- steps of two parts, of which a second part passes every earlier first part
+walk-split : {A : Type 0} (f g : ℕ → A → A) (n : ℕ) → ((k j : ℕ) → k < n → j < n → (s : A) → g k (f j s) ≡ f j (g k s)) → (s : A) → walk n (λ k r. f k (g k r)) s ≡ walk n f (walk n g s)
+unfolding walk
+walk-split f g zero h s = refl
+walk-split f g (suc n) h s =
+    ap (λ r. f n (g n r)) (walk-split f g n (λ k j p q. h k j (omega arith) (omega arith)) s)
+    ∙ ap (f n) (walk-pass (g n) f n (λ j q. h n j (omega arith) (omega arith)) (walk n g s))
+
+walk-still : {A : Type 0} (f : ℕ → ℕ → A → A) (n : ℕ) (s : A) → walk n (λ k. walk 0 (f k)) s ≡ s
+unfolding walk
+walk-still f zero s = refl
+walk-still f (suc n) s = walk-still f n s
+
+-- a loop in a loop, exchanged
+pub walk-exchange : {A : Type 0} (f : ℕ → ℕ → A → A) (n c : ℕ)
+    → ((k l k' l' : ℕ) → k < n → l < c → k' < n → l' < c → (l ≡ l' → ⊥) → (s : A) → f k l (f k' l' s) ≡ f k' l' (f k l s))
+    → (s : A) → walk n (λ k. walk c (f k)) s ≡ walk c (λ l. walk n (λ k. f k l)) s
+unfolding walk
+walk-exchange f n zero h s = walk-still f n s
+walk-exchange f n (suc c) h s =
+    walk-split (λ k. f k c) (λ k. walk c (f k)) n
+    (λ k j p q r. sym (walk-pass (f j c) (f k) c (λ l g t. h j c k l q (omega arith) p (omega arith) (λ e. omega arith) t) r))
+    s
+    ∙ ap (walk n (λ k. f k c)) (walk-exchange f n c (λ k l k' l' p q p' q'. h k l k' l' p (omega arith) p' (omega arith)) s)
+
+-- rounds over no lines: as many as one likes
+pub walk-rounds : {A : Type 0} (f : ℕ → ℕ → A → A) (n m c : ℕ) → ((l : ℕ) → l < c → n ≡ m) → (s : A) → walk n (λ k. walk c (f k)) s ≡ walk m (λ k. walk c (f k)) s
+walk-rounds f n m zero h s = walk-still f n s ∙ sym (walk-still f m s)
+walk-rounds f n m (suc c) h s = ap (λ (k : ℕ). walk k (λ i. walk (suc c) (f i)) s) (h c (omega arith))

@@ -12,7 +12,7 @@ use Rattle.slab.specs.Elem.{elem}
 use Rattle.slab.specs.Run.{more}
 use Rattle.blas.specs.Substitution.{inOrder}
 use Rattle.order.specs.declared.System.{System}
-use Rattle.order.specs.Triangles.{coefficient, weigh}
+use Rattle.order.specs.Triangles.{coefficient}
 use Rattle.order.specs.Walk.{walk}
 
 -- element (i, j) of B: how many elements of its line come before it, and its line
@@ -32,10 +32,10 @@ ownDiag K Unit c = K .one
 module _ (K : Kind) (y : System) (a : List (K .Cell)) where
   -- what element p of line l brings into element q, and what element q brings itself
   abbrev pub term : List (K .Cell) → ℕ → ℕ → ℕ → K .Elem
-  term s q l p = weigh K (y .side) (coefficient K y a q p) (elem K s (y .b) p l)
+  term s q l p = K .mul (coefficient K y a q p) (elem K s (y .b) p l)
 
   abbrev pub own : List (K .Cell) → ℕ → ℕ → K .Elem
-  own s q l = weigh K (y .side) (ownDiag K (y .diag) (coefficient K y a q q)) (elem K s (y .b) q l)
+  own s q l = K .mul (ownDiag K (y .diag) (coefficient K y a q q)) (elem K s (y .b) q l)
 
   -- element q of line l of the product: its own term before those behind it, or after those before it
   unfoldable pub lineSum : List (K .Cell) → ℕ → ℕ → K .Elem

@@ -5,6 +5,7 @@ use Rattle.view.specs.declared.View.{View}
 use Rattle.view.specs.declared.Side.{Side}
 use Rattle.view.specs.Checks.{orderOf}
 use Rattle.view.specs.Steps.{Accepted}
+use Rattle.slab.specs.Distinct.{Distinct}
 use Rattle.order.specs.declared.System.{System}
 use Rattle.order.specs.Multiply.{turn, line}
 
@@ -26,9 +27,10 @@ pub record ReadyAt (y : System) (la lb q l : ℕ) : Type 0 where
   pub unknown : q < y .b .rows
   pub line : l < y .b .cols
 
--- A is square, of the order that B's side has
+-- A is square, of the order that B's side has, and B's elements lie apart from each other
 pub record Sided (side : Side) (va : View) (la : ℕ) (vb : View) (lb : ℕ) : Type 0 where
   pub a : Accepted va la
   pub b : Accepted vb lb
   pub rows : va .rows ≡ orderOf side vb
   pub cols : va .cols ≡ orderOf side vb
+  pub distinct : Distinct vb

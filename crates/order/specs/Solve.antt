@@ -9,11 +9,13 @@ use Rattle.view.specs.declared.Answer.{Answer}
 use Rattle.view.specs.declared.Answer.the-variants.{Done, Singular}
 use Rattle.view.specs.declared.Diag.{Diag}
 use Rattle.view.specs.declared.Diag.the-variants.{NonUnit, Unit}
+use Rattle.view.specs.declared.Side.{Side}
+use Rattle.view.specs.declared.Side.the-variants.{Left, Right}
 use Rattle.view.specs.Place.{index}
 use Rattle.slab.specs.Elem.{elem}
 use Rattle.blas.specs.Substitution.{inOrder, leastSolved, less, firstAt}
 use Rattle.order.specs.declared.System.{System}
-use Rattle.order.specs.Triangles.{coefficient, weigh}
+use Rattle.order.specs.Triangles.{coefficient}
 use Rattle.order.specs.Walk.{walk}
 
 -- divided by the pivot c; Unit has none
@@ -31,18 +33,18 @@ module _ (K : Kind) (y : System) (start : K .Elem → K .Elem) (a : List (K .Cel
   abbrev pub solution : ℕ → ℕ → ℕ → List (K .Cell) → K .Elem
   solution k q l s =
       byDiag K (y .diag) (coefficient K y a q q)
-      (less K (start (elem K s (y .b) q l)) (λ p. weigh K (y .side) (coefficient K y a q p) (elem K s (y .b) p l)) (leastSolved (y .last) (y .b .rows) k) k)
+      (less K (start (elem K s (y .b) q l)) (λ p. K .mul (coefficient K y a q p) (elem K s (y .b) p l)) (leastSolved (y .last) (y .b .rows) k) k)
 
   -- the unknown of line l that is solved after k others
   unfoldable pub solveOne : ℕ → ℕ → List (K .Cell) → List (K .Cell)
   solveOne k l s = K .put s (index (y .b) (inOrder (y .last) (y .b .rows) k) l) (solution k (inOrder (y .last) (y .b .rows) k) l s)
 
-  -- the first n unknowns of line l, and the unknown after k others in every line
-  abbrev pub solveLine : ℕ → ℕ → List (K .Cell) → List (K .Cell)
-  solveLine l n s = walk n (λ k. solveOne k l) s
+  -- the unknown after k others in the first n lines, and the first m unknowns there
+  abbrev pub solveAcross : ℕ → ℕ → List (K .Cell) → List (K .Cell)
+  solveAcross n k s = walk n (λ l. solveOne k l) s
 
-  abbrev pub solveAcross : ℕ → List (K .Cell) → List (K .Cell)
-  solveAcross k s = walk (y .b .cols) (λ l. solveOne k l) s
+  abbrev pub solveUnknowns : ℕ → ℕ → List (K .Cell) → List (K .Cell)
+  solveUnknowns n m s = walk m (λ k. solveAcross n k) s
 
 -- whether the pivot of the unknown that is solved after k others is zero, and how many unknowns come before the first such
 unfoldable pub zeroAfter : (K : Kind) → System → List (K .Cell) → ℕ → Bool
@@ -55,16 +57,15 @@ firstZero K y a = firstAt (y .b .rows) (zeroAfter K y a)
 unfoldable pub stops : System → ℕ → Bool
 stops y k = ltb 0 (y .b .cols) && ltb k (y .b .rows)
 
--- what a solve answers, and what it leaves: of the first line, or of every line
-pub record Solved (K : Kind) (y : System) (a : List (K .Cell)) (reached : ℕ → List (K .Cell)) (whole : List (K .Cell)) (r : Answer) (s : List (K .Cell)) : Type 0 where
-  pub answer : r ≡ cond (stops y (firstZero K y a)) Singular Done
-  pub slab : s ≡ cond (stops y (firstZero K y a)) (reached (firstZero K y a)) whole
+-- what it then answers, and how many of n lines it has solved
+abbrev pub answered : Bool → Answer
+answered stopped = cond stopped Singular Done
 
-module _ (K : Kind) (y : System) (start : K .Elem → K .Elem) (a s₀ : List (K .Cell)) where
-  -- Left: line after line
-  abbrev pub SolvedLeft : Answer → List (K .Cell) → Type 0
-  SolvedLeft r s = Solved K y a (λ k. solveLine K y start a 0 k s₀) (walk (y .b .cols) (λ l. solveLine K y start a l (y .b .rows)) s₀) r s
+abbrev pub linesSolved : Side → Bool → ℕ → ℕ
+linesSolved Left stopped n = cond stopped 1 n
+linesSolved Right stopped n = n
 
-  -- Right: unknown after unknown, each in every line
-  abbrev pub SolvedRight : Answer → List (K .Cell) → Type 0
-  SolvedRight r s = Solved K y a (λ k. walk k (solveAcross K y start a) s₀) (walk (y .b .rows) (solveAcross K y start a) s₀) r s
+-- what a solve answers, and what it leaves
+pub record Solved (K : Kind) (y : System) (start : K .Elem → K .Elem) (a s₀ : List (K .Cell)) (r : Answer) (s : List (K .Cell)) : Type 0 where
+  pub answer : r ≡ answered (stops y (firstZero K y a))
+  pub slab : s ≡ solveUnknowns K y start a (linesSolved (y .side) (stops y (firstZero K y a)) (y .b .cols)) (firstZero K y a) s₀

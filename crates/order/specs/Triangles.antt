@@ -1,4 +1,4 @@
--- A triangular system or product, chosen before its loops: which views show the coefficients and the unknowns, and in which order operands stand.
+-- A triangular system or product, chosen before its loops: which views show the coefficients and the unknowns.
 use Prim.Native.Nat.{ℕ}
 use mathlib.Core.Bool.{Bool, true, false}
 use mathlib.Core.List.{List}
@@ -12,6 +12,7 @@ use Rattle.view.specs.declared.Side.the-variants.{Left, Right}
 use Rattle.view.specs.Place.{transposedOf, opViewOf, isConj}
 use Rattle.slab.specs.Run.{plain}
 use Rattle.blas.specs.Substitution.{lastFirst}
+use Rattle.blas.specs.Trsm.{timesAlpha}
 use Rattle.order.specs.declared.System.{System}
 
 -- unknown p of line l is element (p, l): Left of B, Right of its transpose
@@ -35,12 +36,16 @@ systemOf side uplo t diag a b = record {
 abbrev pub coefficient : (K : Kind) → System → List (K .Cell) → ℕ → ℕ → K .Elem
 coefficient K y a q p = plain K (y .conjugated) a (y .a) q p
 
--- a coefficient times an unknown, in the side's order of operands
-abbrev pub weigh : (K : Kind) → Side → K .Elem → K .Elem → K .Elem
-weigh K Left c x = K .mul c x
-weigh K Right c x = K .mul x c
-
 -- times alpha, or as it is
 abbrev pub timesIf : (K : Kind) → Bool → K .Elem → K .Elem → K .Elem
 timesIf K true alpha x = K .mul alpha x
 timesIf K false alpha x = x
+
+-- the left side multiplies by alpha where it solves, the right side all of B before
+abbrev pub isLeft : Side → Bool
+isLeft Left = true
+isLeft Right = false
+
+abbrev pub scaledRight : (K : Kind) → Side → K .Elem → View → List (K .Cell) → List (K .Cell)
+scaledRight K Left alpha v s = s
+scaledRight K Right alpha v s = timesAlpha K alpha v s

@@ -5,8 +5,10 @@ ghost use mathlib.Core.Path.{_≡_};
 ghost use Prim.Native.Nat.{_≤_, _<_, _+_};
 ghost use Rattle.blas.specs.Triangular as triangular;
 ghost use Rattle.blas.specs.Substitution as substitution;
-ghost use Rattle.order.specs.Triangles.{linesView, systemOf};
+ghost use Rattle.order.specs.Triangles.{isLeft, linesView, systemOf};
 ghost use Rattle.order.specs.Multiply as multiply;
+ghost use Rattle.order.specs.Solve as solve;
+use view::Answer;
 use view::Diag;
 use view::Side;
 use view::Trans;
@@ -68,6 +70,15 @@ fn last_first(side: Side, uplo: UpLo, t: Trans) -> bool
     match side {
         Side::Left => op_upper(uplo, t),
         Side::Right => !op_upper(uplo, t),
+    }
+}
+
+pub fn is_left(side: Side) -> bool
+    ensures { λ r. ⌜ r ≡ isLeft side ⌝ }
+{
+    match side {
+        Side::Left => true,
+        Side::Right => false,
     }
 }
 
@@ -133,5 +144,37 @@ pub fn line(side: Side, i: usize, j: usize) -> usize
     match side {
         Side::Left => j,
         Side::Right => i,
+    }
+}
+
+// Whether a solve stops where k unknowns come before the first zero pivot: there is a line, and not all unknowns do.
+pub fn stops(sys: System, k: usize) -> bool
+    ensures { λ r. ⌜ r ≡ solve.stops sys k ⌝ }
+{
+    if 0 < cols(sys.b) {
+        k < rows(sys.b)
+    } else {
+        false
+    }
+}
+
+// How many of n lines are solved: all, but the first alone where a left solve stops.
+pub fn lines_solved(side: Side, stopped: bool, n: usize) -> usize
+    ensures { λ r. ⌜ r ≡ solve.linesSolved side stopped n ⌝ }
+{
+    match side {
+        Side::Left => if stopped { 1 } else { n },
+        Side::Right => n,
+    }
+}
+
+// What it then answers.
+pub fn solved(stopped: bool) -> Answer
+    ensures { λ r. ⌜ r ≡ solve.answered stopped ⌝ }
+{
+    if stopped {
+        Answer::Singular
+    } else {
+        Answer::Done
     }
 }

@@ -1,6 +1,7 @@
-// The products of complex numbers.
+// The products of complex numbers. Each routine has loops of its own: what a call reads and writes then stays in registers.
 
 ghost use mathlib.Core.Path.{_≡_};
+ghost use mathlib.Core.Bool.{true, false};
 ghost use Prim.Native.Nat.{_<_, _-_};
 ghost use Rattle.number.specs.Kind.{complex};
 ghost use Rattle.number.specs.Scaling.{scaleByComplex, times};
@@ -18,14 +19,24 @@ ghost use Rattle.blas.specs.Symm;
 ghost use Rattle.blas.specs.Syrk;
 ghost use Rattle.product_plan.specs.Plans.{ReadySided, sidedWork};
 ghost use Rattle.product_plan.specs.Plan.{term, replaced, planChange, foldedChange, turnOf, Spans, Ready, FoldedReady, ByRow};
+use judge::check_gemm;
+use judge::check_gemv;
+use judge::check_hemm;
+use judge::check_hemv;
+use judge::check_herk;
+use judge::check_symm;
+use judge::check_syrk;
+use judge::quick_gemm;
+use judge::quick_gemv;
+use judge::quick_hemv;
+use judge::quick_symm;
+use judge::quick_syrk;
 use number::BetaComplex;
 use number::Complex;
 use number::Multiplier;
 use product_plan::Factors;
 use product_plan::Folded;
 use product_plan::Plan;
-use product_plan::end_col;
-use product_plan::first_col;
 use product_plan::gemm_plan;
 use product_plan::gemv_plan;
 use product_plan::hemv_plan;
@@ -42,14 +53,10 @@ use view::Side;
 use view::Trans;
 use view::UpLo;
 use view::View;
-use view::check_gemm;
-use view::check_gemv;
-use view::check_hemm;
-use view::check_hemv;
-use view::check_herk;
-use view::check_symm;
-use view::check_syrk;
 use view::cols;
+use view::end_col;
+use view::first_col;
+use view::op_view;
 use view::passed;
 use view::place;
 use view::rows;
@@ -81,6 +88,29 @@ fn add_run(
     let mut p = from;
     while p < end {
         total = total.add(at(f.left_conj, a, f.left, i, p).mul(at(f.right_conj, b, f.right, p, j)));
+        p += 1;
+    }
+    total
+}
+
+// The same where no right factor is conjugated.
+fn add_left(
+    f: Factors,
+    a: &[f64],
+    b: &[f64],
+    i: usize,
+    j: usize,
+    from: usize,
+    end: usize,
+    sum: Complex,
+) -> Complex
+    requires { ⌜ Spans f (complex .count (now a)) (complex .count (now b)) i j from end × (f .«right_conj» ≡ false) ⌝ }
+    ensures { λ r. ⌜ r ≡ more complex sum (term complex f (now (a .entry)) (now (b .entry)) i j) from (end - from) ⌝ }
+{
+    let mut total = sum;
+    let mut p = from;
+    while p < end {
+        total = total.add(at(f.left_conj, a, f.left, i, p).mul(elem_complex(b, f.right, p, j)));
         p += 1;
     }
     total
@@ -156,9 +186,8 @@ fn run(plan: Plan, a: &[f64], b: &[f64], alpha: Multiplier, beta: BetaComplex, c
     }
 }
 
-// Row i of the target's named triangle.
-fn triangle_row(
-    uplo: UpLo,
+// Element (i, j) of the target, with no right factor conjugated.
+fn column_entry(
     plan: Plan,
     a: &[f64],
     b: &[f64],
@@ -166,48 +195,24 @@ fn triangle_row(
     beta: BetaComplex,
     c: &mut [f64],
     i: usize,
+    j: usize,
 )
-    requires { ⌜ Ready plan (complex .count (now a)) (complex .count (now b)) (complex .count (now c)) × (i < plan .target .rows) × (i < plan .target .cols) ⌝ }
-    ensures { λ _. ⌜ now (c .exit) ≡ rowOf complex (plan .target) (inTriangle uplo) (planChange complex plan (scaleByComplex beta) (times alpha) (now (a .entry)) (now (b .entry))) i (plan .target .cols) (now (c .entry)) ⌝ }
+    requires { ⌜ Ready plan (complex .count (now a)) (complex .count (now b)) (complex .count (now c)) × (i < plan .target .rows) × (j < plan .target .cols) × (plan .factors .«right_conj» ≡ false) ⌝ }
+    ensures { λ _. ⌜ now (c .exit) ≡ replaced complex (plan .target) i j (planChange complex plan (scaleByComplex beta) (times alpha) (now (a .entry)) (now (b .entry)) i j) (now (c .entry)) ⌝ }
 {
-    let end = end_col(uplo, i, cols(plan.target));
-    let mut j = first_col(uplo, i);
-    while j < end {
-        entry(plan, a, b, alpha, beta, c, i, j);
-        j += 1;
-    }
-}
-
-// The whole of the target's named triangle.
-fn run_triangle(
-    uplo: UpLo,
-    plan: Plan,
-    a: &[f64],
-    b: &[f64],
-    alpha: Multiplier,
-    beta: BetaComplex,
-    c: &mut [f64],
-)
-    requires { ⌜ Ready plan (complex .count (now a)) (complex .count (now b)) (complex .count (now c)) × (plan .target .rows ≡ plan .target .cols) ⌝ }
-    ensures { λ _. ⌜ now (c .exit) ≡ update complex (plan .target) (inTriangle uplo) (planChange complex plan (scaleByComplex beta) (times alpha) (now (a .entry)) (now (b .entry))) (now (c .entry)) ⌝ }
-{
-    let m = rows(plan.target);
-    let mut i = 0;
-    while i < m {
-        triangle_row(uplo, plan, a, b, alpha, beta, c, i);
-        i += 1;
-    }
+    let sum = add_left(plan.factors, a, b, i, j, 0, plan.terms, Complex::ZERO);
+    settle(plan.target, alpha, beta, c, i, j, sum);
 }
 
 // The whole target, which is a column.
 fn run_column(plan: Plan, a: &[f64], b: &[f64], alpha: Multiplier, beta: BetaComplex, c: &mut [f64])
-    requires { ⌜ Ready plan (complex .count (now a)) (complex .count (now b)) (complex .count (now c)) × (plan .target .cols ≡ 1) ⌝ }
+    requires { ⌜ Ready plan (complex .count (now a)) (complex .count (now b)) (complex .count (now c)) × (plan .target .cols ≡ 1) × (plan .factors .«right_conj» ≡ false) ⌝ }
     ensures { λ _. ⌜ now (c .exit) ≡ update complex (plan .target) everywhere (planChange complex plan (scaleByComplex beta) (times alpha) (now (a .entry)) (now (b .entry))) (now (c .entry)) ⌝ }
 {
     let m = rows(plan.target);
     let mut i = 0;
     while i < m {
-        entry(plan, a, b, alpha, beta, c, i, 0);
+        column_entry(plan, a, b, alpha, beta, c, i, 0);
         i += 1;
     }
 }
@@ -252,8 +257,8 @@ fn folded_entry(
     turned_entry(plan, k, a, b, alpha, beta, c, i, j);
 }
 
-// Row i, whose elements' sums turn at one place.
-fn left_row(
+// Element (i, j) of a folded plan's target, with no right factor conjugated.
+fn hemv_entry(
     plan: Folded,
     a: &[f64],
     b: &[f64],
@@ -261,72 +266,17 @@ fn left_row(
     beta: BetaComplex,
     c: &mut [f64],
     i: usize,
+    j: usize,
 )
-    requires { ⌜ FoldedReady plan (complex .count (now a)) (complex .count (now b)) (complex .count (now c)) × ByRow plan × (i < plan .target .rows) ⌝ }
-    ensures { λ _. ⌜ now (c .exit) ≡ rowOf complex (plan .target) everywhere (foldedChange complex plan (scaleByComplex beta) (times alpha) (now (a .entry)) (now (b .entry))) i (plan .target .cols) (now (c .entry)) ⌝ }
+    requires { ⌜ FoldedReady plan (complex .count (now a)) (complex .count (now b)) (complex .count (now c)) × ByRow plan × (i < plan .target .rows) × (j < plan .target .cols) ⌝ }
+    ensures { λ _. ⌜ now (c .exit) ≡ replaced complex (plan .target) i j (foldedChange complex plan (scaleByComplex beta) (times alpha) (now (a .entry)) (now (b .entry)) i j) (now (c .entry)) ⌝ }
 {
     let turn = plan.turn;
-    let k = turn_at(turn, i, 0, plan.terms);
-    let n = cols(plan.target);
-    let mut j = 0;
-    while j < n {
-        turned_entry(plan, k, a, b, alpha, beta, c, i, j);
-        j += 1;
-    }
-}
-
-// The whole target, with such rows.
-fn run_left(plan: Folded, a: &[f64], b: &[f64], alpha: Multiplier, beta: BetaComplex, c: &mut [f64])
-    requires { ⌜ FoldedReady plan (complex .count (now a)) (complex .count (now b)) (complex .count (now c)) × ByRow plan ⌝ }
-    ensures { λ _. ⌜ now (c .exit) ≡ update complex (plan .target) everywhere (foldedChange complex plan (scaleByComplex beta) (times alpha) (now (a .entry)) (now (b .entry))) (now (c .entry)) ⌝ }
-{
-    let m = rows(plan.target);
-    let mut i = 0;
-    while i < m {
-        left_row(plan, a, b, alpha, beta, c, i);
-        i += 1;
-    }
-}
-
-// Row i, whose elements turn each at its own place.
-fn right_row(
-    plan: Folded,
-    a: &[f64],
-    b: &[f64],
-    alpha: Multiplier,
-    beta: BetaComplex,
-    c: &mut [f64],
-    i: usize,
-)
-    requires { ⌜ FoldedReady plan (complex .count (now a)) (complex .count (now b)) (complex .count (now c)) × (i < plan .target .rows) ⌝ }
-    ensures { λ _. ⌜ now (c .exit) ≡ rowOf complex (plan .target) everywhere (foldedChange complex plan (scaleByComplex beta) (times alpha) (now (a .entry)) (now (b .entry))) i (plan .target .cols) (now (c .entry)) ⌝ }
-{
-    let n = cols(plan.target);
-    let mut j = 0;
-    while j < n {
-        folded_entry(plan, a, b, alpha, beta, c, i, j);
-        j += 1;
-    }
-}
-
-// The whole target, with such rows.
-fn run_right(
-    plan: Folded,
-    a: &[f64],
-    b: &[f64],
-    alpha: Multiplier,
-    beta: BetaComplex,
-    c: &mut [f64],
-)
-    requires { ⌜ FoldedReady plan (complex .count (now a)) (complex .count (now b)) (complex .count (now c)) ⌝ }
-    ensures { λ _. ⌜ now (c .exit) ≡ update complex (plan .target) everywhere (foldedChange complex plan (scaleByComplex beta) (times alpha) (now (a .entry)) (now (b .entry))) (now (c .entry)) ⌝ }
-{
-    let m = rows(plan.target);
-    let mut i = 0;
-    while i < m {
-        right_row(plan, a, b, alpha, beta, c, i);
-        i += 1;
-    }
+    let n = plan.terms;
+    let k = turn_at(turn, i, j, n);
+    let head = add_left(plan.head, a, b, i, j, 0, k, Complex::ZERO);
+    let sum = add_left(plan.tail, a, b, i, j, k, n, head);
+    settle(plan.target, alpha, beta, c, i, j, sum);
 }
 
 // The whole target, which is a column.
@@ -338,13 +288,13 @@ fn run_left_column(
     beta: BetaComplex,
     c: &mut [f64],
 )
-    requires { ⌜ FoldedReady plan (complex .count (now a)) (complex .count (now b)) (complex .count (now c)) × (plan .target .cols ≡ 1) ⌝ }
+    requires { ⌜ FoldedReady plan (complex .count (now a)) (complex .count (now b)) (complex .count (now c)) × ByRow plan × (plan .target .cols ≡ 1) ⌝ }
     ensures { λ _. ⌜ now (c .exit) ≡ update complex (plan .target) everywhere (foldedChange complex plan (scaleByComplex beta) (times alpha) (now (a .entry)) (now (b .entry))) (now (c .entry)) ⌝ }
 {
     let m = rows(plan.target);
     let mut i = 0;
     while i < m {
-        folded_entry(plan, a, b, alpha, beta, c, i, 0);
+        hemv_entry(plan, a, b, alpha, beta, c, i, 0);
         i += 1;
     }
 }
@@ -363,7 +313,17 @@ pub fn gemv(
 ) -> Answer
     ensures { λ r. ⌜ Gives complex (Gemv.gemv complex trans alpha (lent complex (now (a .entry)) va) (lent complex (now (x .entry)) vx) beta (lent complex (now (y .entry)) vy)) r (now (y .exit)) ⌝ }
 {
-    let answer = check_gemv(trans, va, a.len() / 2, vx, x.len() / 2, vy, y.len() / 2);
+    let quick = quick_gemv(trans, va, a.len() / 2, vx, x.len() / 2, vy, y.len() / 2);
+    let answer = check_gemv(
+        quick,
+        trans,
+        va,
+        a.len() / 2,
+        vx,
+        x.len() / 2,
+        vy,
+        y.len() / 2,
+    );
     if passed(answer) {
         run_column(
             gemv_plan(trans, va, vx, vy),
@@ -391,7 +351,8 @@ pub fn hemv(
 ) -> Answer
     ensures { λ r. ⌜ Gives complex (Hemv.hemv complex uplo alpha (lent complex (now (a .entry)) va) (lent complex (now (x .entry)) vx) beta (lent complex (now (y .entry)) vy)) r (now (y .exit)) ⌝ }
 {
-    let answer = check_hemv(va, a.len() / 2, vx, x.len() / 2, vy, y.len() / 2);
+    let quick = quick_hemv(va, a.len() / 2, vx, x.len() / 2, vy, y.len() / 2);
+    let answer = check_hemv(quick, va, a.len() / 2, vx, x.len() / 2, vy, y.len() / 2);
     if passed(answer) {
         run_left_column(
             hemv_plan(uplo, va, vx, vy),
@@ -420,7 +381,20 @@ pub fn gemm(
 ) -> Answer
     ensures { λ r. ⌜ Gives complex (Gemm.gemm complex ta tb alpha (lent complex (now (a .entry)) va) (lent complex (now (b .entry)) vb) beta (lent complex (now (c .entry)) vc)) r (now (c .exit)) ⌝ }
 {
-    let answer = check_gemm(ta, tb, va, a.len() / 2, vb, b.len() / 2, vc, c.len() / 2);
+    let left = op_view(ta, va);
+    let right = op_view(tb, vb);
+    let quick = quick_gemm(left, a.len() / 2, right, b.len() / 2, vc, c.len() / 2);
+    let answer = check_gemm(
+        quick,
+        ta,
+        tb,
+        va,
+        a.len() / 2,
+        vb,
+        b.len() / 2,
+        vc,
+        c.len() / 2,
+    );
     if passed(answer) {
         run(
             gemm_plan(ta, tb, va, vb, vc),
@@ -434,10 +408,93 @@ pub fn gemm(
     answer
 }
 
-// A, of which the named triangle is read, on a side of B; its other elements are mirrored, and conjugated where asked.
-fn sided(
+// Row i of symm with A on the left.
+fn symm_left_row(
+    plan: Folded,
+    a: &[f64],
+    b: &[f64],
+    alpha: Multiplier,
+    beta: BetaComplex,
+    c: &mut [f64],
+    i: usize,
+)
+    requires { ⌜ FoldedReady plan (complex .count (now a)) (complex .count (now b)) (complex .count (now c)) × ByRow plan × (i < plan .target .rows) ⌝ }
+    ensures { λ _. ⌜ now (c .exit) ≡ rowOf complex (plan .target) everywhere (foldedChange complex plan (scaleByComplex beta) (times alpha) (now (a .entry)) (now (b .entry))) i (plan .target .cols) (now (c .entry)) ⌝ }
+{
+    let turn = plan.turn;
+    let k = turn_at(turn, i, 0, plan.terms);
+    let n = cols(plan.target);
+    let mut j = 0;
+    while j < n {
+        turned_entry(plan, k, a, b, alpha, beta, c, i, j);
+        j += 1;
+    }
+}
+
+// The whole target of symm with A on the left.
+fn run_symm_left(
+    plan: Folded,
+    a: &[f64],
+    b: &[f64],
+    alpha: Multiplier,
+    beta: BetaComplex,
+    c: &mut [f64],
+)
+    requires { ⌜ FoldedReady plan (complex .count (now a)) (complex .count (now b)) (complex .count (now c)) × ByRow plan ⌝ }
+    ensures { λ _. ⌜ now (c .exit) ≡ update complex (plan .target) everywhere (foldedChange complex plan (scaleByComplex beta) (times alpha) (now (a .entry)) (now (b .entry))) (now (c .entry)) ⌝ }
+{
+    let m = rows(plan.target);
+    let mut i = 0;
+    while i < m {
+        symm_left_row(plan, a, b, alpha, beta, c, i);
+        i += 1;
+    }
+}
+
+// Row i of symm with A on the right, where each element turns at its own place.
+fn symm_right_row(
+    plan: Folded,
+    a: &[f64],
+    b: &[f64],
+    alpha: Multiplier,
+    beta: BetaComplex,
+    c: &mut [f64],
+    i: usize,
+)
+    requires { ⌜ FoldedReady plan (complex .count (now a)) (complex .count (now b)) (complex .count (now c)) × (i < plan .target .rows) ⌝ }
+    ensures { λ _. ⌜ now (c .exit) ≡ rowOf complex (plan .target) everywhere (foldedChange complex plan (scaleByComplex beta) (times alpha) (now (a .entry)) (now (b .entry))) i (plan .target .cols) (now (c .entry)) ⌝ }
+{
+    let n = cols(plan.target);
+    let mut j = 0;
+    while j < n {
+        folded_entry(plan, a, b, alpha, beta, c, i, j);
+        j += 1;
+    }
+}
+
+// The whole target of symm with A on the right.
+fn run_symm_right(
+    plan: Folded,
+    a: &[f64],
+    b: &[f64],
+    alpha: Multiplier,
+    beta: BetaComplex,
+    c: &mut [f64],
+)
+    requires { ⌜ FoldedReady plan (complex .count (now a)) (complex .count (now b)) (complex .count (now c)) ⌝ }
+    ensures { λ _. ⌜ now (c .exit) ≡ update complex (plan .target) everywhere (foldedChange complex plan (scaleByComplex beta) (times alpha) (now (a .entry)) (now (b .entry))) (now (c .entry)) ⌝ }
+{
+    let m = rows(plan.target);
+    let mut i = 0;
+    while i < m {
+        symm_right_row(plan, a, b, alpha, beta, c, i);
+        i += 1;
+    }
+}
+
+// A, of which the named triangle is read, on a side of B; its other elements are mirrored.
+fn symm_sided(
     side: Side,
-    conj: bool,
     uplo: UpLo,
     alpha: Multiplier,
     a: &[f64],
@@ -448,20 +505,20 @@ fn sided(
     c: &mut [f64],
     vc: View,
 )
-    requires { ⌜ ReadySided side conj uplo va (complex .count (now a)) vb (complex .count (now b)) vc (complex .count (now c)) ⌝ }
-    ensures { λ _. ⌜ now (c .exit) ≡ sidedWork complex side conj uplo va vb vc (scaleByComplex beta) (times alpha) (now (a .entry)) (now (b .entry)) (now (c .entry)) ⌝ }
+    requires { ⌜ ReadySided side false uplo va (complex .count (now a)) vb (complex .count (now b)) vc (complex .count (now c)) ⌝ }
+    ensures { λ _. ⌜ now (c .exit) ≡ sidedWork complex side false uplo va vb vc (scaleByComplex beta) (times alpha) (now (a .entry)) (now (b .entry)) (now (c .entry)) ⌝ }
 {
     match side {
-        Side::Left => run_left(
-            left_plan(conj, uplo, va, vb, rows(vc), vc),
+        Side::Left => run_symm_left(
+            left_plan(false, uplo, va, vb, rows(vc), vc),
             a,
             b,
             alpha,
             beta,
             c,
         ),
-        Side::Right => run_right(
-            right_plan(conj, uplo, va, vb, cols(vc), vc),
+        Side::Right => run_symm_right(
+            right_plan(false, uplo, va, vb, cols(vc), vc),
             b,
             a,
             alpha,
@@ -486,11 +543,20 @@ pub fn symm(
 ) -> Answer
     ensures { λ r. ⌜ Gives complex (Symm.symm complex side uplo alpha (lent complex (now (a .entry)) va) (lent complex (now (b .entry)) vb) beta (lent complex (now (c .entry)) vc)) r (now (c .exit)) ⌝ }
 {
-    let answer = check_symm(side, va, a.len() / 2, vb, b.len() / 2, vc, c.len() / 2);
+    let quick = quick_symm(side, va, a.len() / 2, vb, b.len() / 2, vc, c.len() / 2);
+    let answer = check_symm(
+        quick,
+        side,
+        va,
+        a.len() / 2,
+        vb,
+        b.len() / 2,
+        vc,
+        c.len() / 2,
+    );
     if passed(answer) {
-        sided(
+        symm_sided(
             side,
-            false,
             uplo,
             Multiplier::Number(alpha),
             a,
@@ -503,6 +569,126 @@ pub fn symm(
         );
     }
     answer
+}
+
+// Row i of hemm with A on the left.
+fn hemm_left_row(
+    plan: Folded,
+    a: &[f64],
+    b: &[f64],
+    alpha: Multiplier,
+    beta: BetaComplex,
+    c: &mut [f64],
+    i: usize,
+)
+    requires { ⌜ FoldedReady plan (complex .count (now a)) (complex .count (now b)) (complex .count (now c)) × ByRow plan × (i < plan .target .rows) ⌝ }
+    ensures { λ _. ⌜ now (c .exit) ≡ rowOf complex (plan .target) everywhere (foldedChange complex plan (scaleByComplex beta) (times alpha) (now (a .entry)) (now (b .entry))) i (plan .target .cols) (now (c .entry)) ⌝ }
+{
+    let turn = plan.turn;
+    let k = turn_at(turn, i, 0, plan.terms);
+    let n = cols(plan.target);
+    let mut j = 0;
+    while j < n {
+        turned_entry(plan, k, a, b, alpha, beta, c, i, j);
+        j += 1;
+    }
+}
+
+// The whole target of hemm with A on the left.
+fn run_hemm_left(
+    plan: Folded,
+    a: &[f64],
+    b: &[f64],
+    alpha: Multiplier,
+    beta: BetaComplex,
+    c: &mut [f64],
+)
+    requires { ⌜ FoldedReady plan (complex .count (now a)) (complex .count (now b)) (complex .count (now c)) × ByRow plan ⌝ }
+    ensures { λ _. ⌜ now (c .exit) ≡ update complex (plan .target) everywhere (foldedChange complex plan (scaleByComplex beta) (times alpha) (now (a .entry)) (now (b .entry))) (now (c .entry)) ⌝ }
+{
+    let m = rows(plan.target);
+    let mut i = 0;
+    while i < m {
+        hemm_left_row(plan, a, b, alpha, beta, c, i);
+        i += 1;
+    }
+}
+
+// Row i of hemm with A on the right, where each element turns at its own place.
+fn hemm_right_row(
+    plan: Folded,
+    a: &[f64],
+    b: &[f64],
+    alpha: Multiplier,
+    beta: BetaComplex,
+    c: &mut [f64],
+    i: usize,
+)
+    requires { ⌜ FoldedReady plan (complex .count (now a)) (complex .count (now b)) (complex .count (now c)) × (i < plan .target .rows) ⌝ }
+    ensures { λ _. ⌜ now (c .exit) ≡ rowOf complex (plan .target) everywhere (foldedChange complex plan (scaleByComplex beta) (times alpha) (now (a .entry)) (now (b .entry))) i (plan .target .cols) (now (c .entry)) ⌝ }
+{
+    let n = cols(plan.target);
+    let mut j = 0;
+    while j < n {
+        folded_entry(plan, a, b, alpha, beta, c, i, j);
+        j += 1;
+    }
+}
+
+// The whole target of hemm with A on the right.
+fn run_hemm_right(
+    plan: Folded,
+    a: &[f64],
+    b: &[f64],
+    alpha: Multiplier,
+    beta: BetaComplex,
+    c: &mut [f64],
+)
+    requires { ⌜ FoldedReady plan (complex .count (now a)) (complex .count (now b)) (complex .count (now c)) ⌝ }
+    ensures { λ _. ⌜ now (c .exit) ≡ update complex (plan .target) everywhere (foldedChange complex plan (scaleByComplex beta) (times alpha) (now (a .entry)) (now (b .entry))) (now (c .entry)) ⌝ }
+{
+    let m = rows(plan.target);
+    let mut i = 0;
+    while i < m {
+        hemm_right_row(plan, a, b, alpha, beta, c, i);
+        i += 1;
+    }
+}
+
+// A, of which the named triangle is read, on a side of B; its other elements are mirrored and conjugated.
+fn hemm_sided(
+    side: Side,
+    uplo: UpLo,
+    alpha: Multiplier,
+    a: &[f64],
+    va: View,
+    b: &[f64],
+    vb: View,
+    beta: BetaComplex,
+    c: &mut [f64],
+    vc: View,
+)
+    requires { ⌜ ReadySided side true uplo va (complex .count (now a)) vb (complex .count (now b)) vc (complex .count (now c)) ⌝ }
+    ensures { λ _. ⌜ now (c .exit) ≡ sidedWork complex side true uplo va vb vc (scaleByComplex beta) (times alpha) (now (a .entry)) (now (b .entry)) (now (c .entry)) ⌝ }
+{
+    match side {
+        Side::Left => run_hemm_left(
+            left_plan(true, uplo, va, vb, rows(vc), vc),
+            a,
+            b,
+            alpha,
+            beta,
+            c,
+        ),
+        Side::Right => run_hemm_right(
+            right_plan(true, uplo, va, vb, cols(vc), vc),
+            b,
+            a,
+            alpha,
+            beta,
+            c,
+        ),
+    }
 }
 
 // C ← alpha A B + beta C or alpha B A + beta C, A Hermitian
@@ -520,11 +706,20 @@ pub fn hemm(
 ) -> Answer
     ensures { λ r. ⌜ Gives complex (Hemm.hemm complex side uplo alpha (lent complex (now (a .entry)) va) (lent complex (now (b .entry)) vb) beta (lent complex (now (c .entry)) vc)) r (now (c .exit)) ⌝ }
 {
-    let answer = check_hemm(side, va, a.len() / 2, vb, b.len() / 2, vc, c.len() / 2);
+    let quick = quick_symm(side, va, a.len() / 2, vb, b.len() / 2, vc, c.len() / 2);
+    let answer = check_hemm(
+        quick,
+        side,
+        va,
+        a.len() / 2,
+        vb,
+        b.len() / 2,
+        vc,
+        c.len() / 2,
+    );
     if passed(answer) {
-        sided(
+        hemm_sided(
             side,
-            true,
             uplo,
             Multiplier::Number(alpha),
             a,
@@ -537,6 +732,49 @@ pub fn hemm(
         );
     }
     answer
+}
+
+// Row i of the named triangle of syrk's target.
+fn syrk_row(
+    uplo: UpLo,
+    plan: Plan,
+    a: &[f64],
+    b: &[f64],
+    alpha: Multiplier,
+    beta: BetaComplex,
+    c: &mut [f64],
+    i: usize,
+)
+    requires { ⌜ Ready plan (complex .count (now a)) (complex .count (now b)) (complex .count (now c)) × (i < plan .target .rows) × (i < plan .target .cols) ⌝ }
+    ensures { λ _. ⌜ now (c .exit) ≡ rowOf complex (plan .target) (inTriangle uplo) (planChange complex plan (scaleByComplex beta) (times alpha) (now (a .entry)) (now (b .entry))) i (plan .target .cols) (now (c .entry)) ⌝ }
+{
+    let end = end_col(uplo, i, cols(plan.target));
+    let mut j = first_col(uplo, i);
+    while j < end {
+        entry(plan, a, b, alpha, beta, c, i, j);
+        j += 1;
+    }
+}
+
+// The whole of that triangle.
+fn run_syrk(
+    uplo: UpLo,
+    plan: Plan,
+    a: &[f64],
+    b: &[f64],
+    alpha: Multiplier,
+    beta: BetaComplex,
+    c: &mut [f64],
+)
+    requires { ⌜ Ready plan (complex .count (now a)) (complex .count (now b)) (complex .count (now c)) × (plan .target .rows ≡ plan .target .cols) ⌝ }
+    ensures { λ _. ⌜ now (c .exit) ≡ update complex (plan .target) (inTriangle uplo) (planChange complex plan (scaleByComplex beta) (times alpha) (now (a .entry)) (now (b .entry))) (now (c .entry)) ⌝ }
+{
+    let m = rows(plan.target);
+    let mut i = 0;
+    while i < m {
+        syrk_row(uplo, plan, a, b, alpha, beta, c, i);
+        i += 1;
+    }
 }
 
 // C ← alpha A Aᵀ + beta C or alpha Aᵀ A + beta C, in the named triangle
@@ -552,9 +790,10 @@ pub fn syrk(
 ) -> Answer
     ensures { λ r. ⌜ Gives complex (Syrk.syrk complex uplo trans alpha (lent complex (now (a .entry)) va) beta (lent complex (now (c .entry)) vc)) r (now (c .exit)) ⌝ }
 {
-    let answer = check_syrk(trans, va, a.len() / 2, vc, c.len() / 2);
+    let quick = quick_syrk(trans, va, a.len() / 2, vc, c.len() / 2);
+    let answer = check_syrk(quick, trans, va, a.len() / 2, vc, c.len() / 2);
     if passed(answer) {
-        run_triangle(
+        run_syrk(
             uplo,
             syrk_plan(trans, va, vc),
             a,
@@ -565,6 +804,49 @@ pub fn syrk(
         );
     }
     answer
+}
+
+// Row i of the named triangle of herk's target.
+fn herk_row(
+    uplo: UpLo,
+    plan: Plan,
+    a: &[f64],
+    b: &[f64],
+    alpha: Multiplier,
+    beta: BetaComplex,
+    c: &mut [f64],
+    i: usize,
+)
+    requires { ⌜ Ready plan (complex .count (now a)) (complex .count (now b)) (complex .count (now c)) × (i < plan .target .rows) × (i < plan .target .cols) ⌝ }
+    ensures { λ _. ⌜ now (c .exit) ≡ rowOf complex (plan .target) (inTriangle uplo) (planChange complex plan (scaleByComplex beta) (times alpha) (now (a .entry)) (now (b .entry))) i (plan .target .cols) (now (c .entry)) ⌝ }
+{
+    let end = end_col(uplo, i, cols(plan.target));
+    let mut j = first_col(uplo, i);
+    while j < end {
+        entry(plan, a, b, alpha, beta, c, i, j);
+        j += 1;
+    }
+}
+
+// The whole of that triangle.
+fn run_herk(
+    uplo: UpLo,
+    plan: Plan,
+    a: &[f64],
+    b: &[f64],
+    alpha: Multiplier,
+    beta: BetaComplex,
+    c: &mut [f64],
+)
+    requires { ⌜ Ready plan (complex .count (now a)) (complex .count (now b)) (complex .count (now c)) × (plan .target .rows ≡ plan .target .cols) ⌝ }
+    ensures { λ _. ⌜ now (c .exit) ≡ update complex (plan .target) (inTriangle uplo) (planChange complex plan (scaleByComplex beta) (times alpha) (now (a .entry)) (now (b .entry))) (now (c .entry)) ⌝ }
+{
+    let m = rows(plan.target);
+    let mut i = 0;
+    while i < m {
+        herk_row(uplo, plan, a, b, alpha, beta, c, i);
+        i += 1;
+    }
 }
 
 // C ← alpha A Aᴴ + beta C or alpha Aᴴ A + beta C, in the named triangle, alpha and beta real
@@ -580,9 +862,10 @@ pub fn herk(
 ) -> Answer
     ensures { λ r. ⌜ Gives complex (Herk.herk complex uplo trans alpha (lent complex (now (a .entry)) va) beta (lent complex (now (c .entry)) vc)) r (now (c .exit)) ⌝ }
 {
-    let answer = check_herk(trans, va, a.len() / 2, vc, c.len() / 2);
+    let quick = quick_syrk(trans, va, a.len() / 2, vc, c.len() / 2);
+    let answer = check_herk(quick, trans, va, a.len() / 2, vc, c.len() / 2);
     if passed(answer) {
-        run_triangle(
+        run_herk(
             uplo,
             herk_plan(trans, va, vc),
             a,

@@ -1,6 +1,7 @@
-// The products of f32.
+// The products of f32. Each routine has loops of its own: what a call reads and writes then stays in registers.
 
 ghost use mathlib.Core.Path.{_≡_};
+ghost use mathlib.Core.Bool.{true, false};
 ghost use Prim.Native.Nat.{_<_, _-_};
 ghost use Rattle.number.specs.Kind.{real32};
 ghost use Rattle.number.specs.Scaling.{scaleBy32};
@@ -17,22 +18,34 @@ ghost use Rattle.blas.specs.Herk;
 ghost use Rattle.blas.specs.Symm;
 ghost use Rattle.blas.specs.Syrk;
 ghost use Rattle.product_plan.specs.Plans.{ReadySided, sidedWork};
-ghost use Rattle.product_plan.specs.Plan.{term, replaced, planChange, foldedChange, turnOf, Spans, Ready, FoldedReady, ByRow};
+ghost use Rattle.product_plan.specs.Plan.{term, replaced, planChange, foldedChange, foldedProduct, LeftWalk, RightWalk, Spans, Ready, FoldedReady, ByRow, ByCol};
+use judge::check_gemm;
+use judge::check_gemv;
+use judge::check_hemm;
+use judge::check_hemv;
+use judge::check_herk;
+use judge::check_symm;
+use judge::check_syrk;
+use judge::quick_gemm;
+use judge::quick_gemv;
+use judge::quick_hemv;
+use judge::quick_symm;
+use judge::quick_syrk;
 use number::Beta32;
 use number::Real32;
 use product_plan::Factors;
 use product_plan::Folded;
 use product_plan::Plan;
-use product_plan::end_col;
-use product_plan::first_col;
+use product_plan::col_step;
 use product_plan::gemm_plan;
 use product_plan::gemv_plan;
 use product_plan::hemv_plan;
 use product_plan::herk_plan;
 use product_plan::left_plan;
+use product_plan::next_place;
 use product_plan::right_plan;
+use product_plan::row_step;
 use product_plan::syrk_plan;
-use product_plan::turn_at;
 use slab::elem32;
 use slab::get32;
 use slab::put32;
@@ -41,14 +54,10 @@ use view::Side;
 use view::Trans;
 use view::UpLo;
 use view::View;
-use view::check_gemm;
-use view::check_gemv;
-use view::check_hemm;
-use view::check_hemv;
-use view::check_herk;
-use view::check_symm;
-use view::check_syrk;
 use view::cols;
+use view::end_col;
+use view::first_col;
+use view::op_view;
 use view::passed;
 use view::place;
 use view::rows;
@@ -130,49 +139,6 @@ fn run(plan: Plan, a: &[f32], b: &[f32], alpha: Real32, beta: Beta32, c: &mut [f
     }
 }
 
-// Row i of the target's named triangle.
-fn triangle_row(
-    uplo: UpLo,
-    plan: Plan,
-    a: &[f32],
-    b: &[f32],
-    alpha: Real32,
-    beta: Beta32,
-    c: &mut [f32],
-    i: usize,
-)
-    requires { ⌜ Ready plan (real32 .count (now a)) (real32 .count (now b)) (real32 .count (now c)) × (i < plan .target .rows) × (i < plan .target .cols) ⌝ }
-    ensures { λ _. ⌜ now (c .exit) ≡ rowOf real32 (plan .target) (inTriangle uplo) (planChange real32 plan (scaleBy32 beta) (real32 .mul (alpha .0)) (now (a .entry)) (now (b .entry))) i (plan .target .cols) (now (c .entry)) ⌝ }
-{
-    let end = end_col(uplo, i, cols(plan.target));
-    let mut j = first_col(uplo, i);
-    while j < end {
-        entry(plan, a, b, alpha, beta, c, i, j);
-        j += 1;
-    }
-}
-
-// The whole of the target's named triangle.
-fn run_triangle(
-    uplo: UpLo,
-    plan: Plan,
-    a: &[f32],
-    b: &[f32],
-    alpha: Real32,
-    beta: Beta32,
-    c: &mut [f32],
-)
-    requires { ⌜ Ready plan (real32 .count (now a)) (real32 .count (now b)) (real32 .count (now c)) × (plan .target .rows ≡ plan .target .cols) ⌝ }
-    ensures { λ _. ⌜ now (c .exit) ≡ update real32 (plan .target) (inTriangle uplo) (planChange real32 plan (scaleBy32 beta) (real32 .mul (alpha .0)) (now (a .entry)) (now (b .entry))) (now (c .entry)) ⌝ }
-{
-    let m = rows(plan.target);
-    let mut i = 0;
-    while i < m {
-        triangle_row(uplo, plan, a, b, alpha, beta, c, i);
-        i += 1;
-    }
-}
-
 // The whole target, which is a column.
 fn run_column(plan: Plan, a: &[f32], b: &[f32], alpha: Real32, beta: Beta32, c: &mut [f32])
     requires { ⌜ Ready plan (real32 .count (now a)) (real32 .count (now b)) (real32 .count (now c)) × (plan .target .cols ≡ 1) ⌝ }
@@ -186,10 +152,47 @@ fn run_column(plan: Plan, a: &[f32], b: &[f32], alpha: Real32, beta: Beta32, c: 
     }
 }
 
-// Element (i, j) of a folded plan's target, where the sum turns after k terms.
-fn turned_entry(
+// Element (i, j) of the product where the left operand is folded: its row is walked by one stride to the diagonal, and by the other from there.
+fn left_sum(plan: Folded, a: &[f32], b: &[f32], i: usize, j: usize) -> Real32
+    requires { ⌜ LeftWalk plan (real32 .count (now a)) (real32 .count (now b)) i j ⌝ }
+    ensures { λ r. ⌜ r .0 ≡ foldedProduct real32 plan (now (a .entry)) (now (b .entry)) i j ⌝ }
+{
+    let n = plan.terms;
+    let before = col_step(plan.head.left);
+    let after = col_step(plan.tail.left);
+    let mut k = place(plan.head.left, i, 0);
+    let mut total = Real32::ZERO;
+    let mut p = 0;
+    while p < n {
+        total = total.add(get32(a, k).mul(elem32(b, plan.head.right, p, j)));
+        k = next_place(k, before, after, i, p);
+        p += 1;
+    }
+    total
+}
+
+// The same where the right operand is folded, with its column.
+fn right_sum(plan: Folded, a: &[f32], b: &[f32], i: usize, j: usize) -> Real32
+    requires { ⌜ RightWalk plan (real32 .count (now a)) (real32 .count (now b)) i j ⌝ }
+    ensures { λ r. ⌜ r .0 ≡ foldedProduct real32 plan (now (a .entry)) (now (b .entry)) i j ⌝ }
+{
+    let n = plan.terms;
+    let before = row_step(plan.head.right);
+    let after = row_step(plan.tail.right);
+    let mut k = place(plan.head.right, 0, j);
+    let mut total = Real32::ZERO;
+    let mut p = 0;
+    while p < n {
+        total = total.add(elem32(a, plan.head.left, i, p).mul(get32(b, k)));
+        k = next_place(k, before, after, j, p);
+        p += 1;
+    }
+    total
+}
+
+// Element (i, j) of the target, with the left operand folded.
+fn left_entry(
     plan: Folded,
-    k: usize,
     a: &[f32],
     b: &[f32],
     alpha: Real32,
@@ -198,17 +201,15 @@ fn turned_entry(
     i: usize,
     j: usize,
 )
-    requires { ⌜ FoldedReady plan (real32 .count (now a)) (real32 .count (now b)) (real32 .count (now c)) × (i < plan .target .rows) × (j < plan .target .cols) × (k ≡ turnOf (plan .turn) i j) ⌝ }
+    requires { ⌜ FoldedReady plan (real32 .count (now a)) (real32 .count (now b)) (real32 .count (now c)) × ByRow plan × (i < plan .target .rows) × (j < plan .target .cols) ⌝ }
     ensures { λ _. ⌜ now (c .exit) ≡ replaced real32 (plan .target) i j (foldedChange real32 plan (scaleBy32 beta) (real32 .mul (alpha .0)) (now (a .entry)) (now (b .entry)) i j) (now (c .entry)) ⌝ }
 {
-    let n = plan.terms;
-    let head = add_run(plan.head, a, b, i, j, 0, k, Real32::ZERO);
-    let sum = add_run(plan.tail, a, b, i, j, k, n, head);
+    let sum = left_sum(plan, a, b, i, j);
     settle(plan.target, alpha, beta, c, i, j, sum);
 }
 
-// The same, with its turn found.
-fn folded_entry(
+// Element (i, j) of the target, with the right operand folded.
+fn right_entry(
     plan: Folded,
     a: &[f32],
     b: &[f32],
@@ -218,93 +219,22 @@ fn folded_entry(
     i: usize,
     j: usize,
 )
-    requires { ⌜ FoldedReady plan (real32 .count (now a)) (real32 .count (now b)) (real32 .count (now c)) × (i < plan .target .rows) × (j < plan .target .cols) ⌝ }
+    requires { ⌜ FoldedReady plan (real32 .count (now a)) (real32 .count (now b)) (real32 .count (now c)) × ByCol plan × (i < plan .target .rows) × (j < plan .target .cols) ⌝ }
     ensures { λ _. ⌜ now (c .exit) ≡ replaced real32 (plan .target) i j (foldedChange real32 plan (scaleBy32 beta) (real32 .mul (alpha .0)) (now (a .entry)) (now (b .entry)) i j) (now (c .entry)) ⌝ }
 {
-    let turn = plan.turn;
-    let k = turn_at(turn, i, j, plan.terms);
-    turned_entry(plan, k, a, b, alpha, beta, c, i, j);
-}
-
-// Row i, whose elements' sums turn at one place.
-fn left_row(
-    plan: Folded,
-    a: &[f32],
-    b: &[f32],
-    alpha: Real32,
-    beta: Beta32,
-    c: &mut [f32],
-    i: usize,
-)
-    requires { ⌜ FoldedReady plan (real32 .count (now a)) (real32 .count (now b)) (real32 .count (now c)) × ByRow plan × (i < plan .target .rows) ⌝ }
-    ensures { λ _. ⌜ now (c .exit) ≡ rowOf real32 (plan .target) everywhere (foldedChange real32 plan (scaleBy32 beta) (real32 .mul (alpha .0)) (now (a .entry)) (now (b .entry))) i (plan .target .cols) (now (c .entry)) ⌝ }
-{
-    let turn = plan.turn;
-    let k = turn_at(turn, i, 0, plan.terms);
-    let n = cols(plan.target);
-    let mut j = 0;
-    while j < n {
-        turned_entry(plan, k, a, b, alpha, beta, c, i, j);
-        j += 1;
-    }
-}
-
-// The whole target, with such rows.
-fn run_left(plan: Folded, a: &[f32], b: &[f32], alpha: Real32, beta: Beta32, c: &mut [f32])
-    requires { ⌜ FoldedReady plan (real32 .count (now a)) (real32 .count (now b)) (real32 .count (now c)) × ByRow plan ⌝ }
-    ensures { λ _. ⌜ now (c .exit) ≡ update real32 (plan .target) everywhere (foldedChange real32 plan (scaleBy32 beta) (real32 .mul (alpha .0)) (now (a .entry)) (now (b .entry))) (now (c .entry)) ⌝ }
-{
-    let m = rows(plan.target);
-    let mut i = 0;
-    while i < m {
-        left_row(plan, a, b, alpha, beta, c, i);
-        i += 1;
-    }
-}
-
-// Row i, whose elements turn each at its own place.
-fn right_row(
-    plan: Folded,
-    a: &[f32],
-    b: &[f32],
-    alpha: Real32,
-    beta: Beta32,
-    c: &mut [f32],
-    i: usize,
-)
-    requires { ⌜ FoldedReady plan (real32 .count (now a)) (real32 .count (now b)) (real32 .count (now c)) × (i < plan .target .rows) ⌝ }
-    ensures { λ _. ⌜ now (c .exit) ≡ rowOf real32 (plan .target) everywhere (foldedChange real32 plan (scaleBy32 beta) (real32 .mul (alpha .0)) (now (a .entry)) (now (b .entry))) i (plan .target .cols) (now (c .entry)) ⌝ }
-{
-    let n = cols(plan.target);
-    let mut j = 0;
-    while j < n {
-        folded_entry(plan, a, b, alpha, beta, c, i, j);
-        j += 1;
-    }
-}
-
-// The whole target, with such rows.
-fn run_right(plan: Folded, a: &[f32], b: &[f32], alpha: Real32, beta: Beta32, c: &mut [f32])
-    requires { ⌜ FoldedReady plan (real32 .count (now a)) (real32 .count (now b)) (real32 .count (now c)) ⌝ }
-    ensures { λ _. ⌜ now (c .exit) ≡ update real32 (plan .target) everywhere (foldedChange real32 plan (scaleBy32 beta) (real32 .mul (alpha .0)) (now (a .entry)) (now (b .entry))) (now (c .entry)) ⌝ }
-{
-    let m = rows(plan.target);
-    let mut i = 0;
-    while i < m {
-        right_row(plan, a, b, alpha, beta, c, i);
-        i += 1;
-    }
+    let sum = right_sum(plan, a, b, i, j);
+    settle(plan.target, alpha, beta, c, i, j, sum);
 }
 
 // The whole target, which is a column.
 fn run_left_column(plan: Folded, a: &[f32], b: &[f32], alpha: Real32, beta: Beta32, c: &mut [f32])
-    requires { ⌜ FoldedReady plan (real32 .count (now a)) (real32 .count (now b)) (real32 .count (now c)) × (plan .target .cols ≡ 1) ⌝ }
+    requires { ⌜ FoldedReady plan (real32 .count (now a)) (real32 .count (now b)) (real32 .count (now c)) × ByRow plan × (plan .target .cols ≡ 1) ⌝ }
     ensures { λ _. ⌜ now (c .exit) ≡ update real32 (plan .target) everywhere (foldedChange real32 plan (scaleBy32 beta) (real32 .mul (alpha .0)) (now (a .entry)) (now (b .entry))) (now (c .entry)) ⌝ }
 {
     let m = rows(plan.target);
     let mut i = 0;
     while i < m {
-        folded_entry(plan, a, b, alpha, beta, c, i, 0);
+        left_entry(plan, a, b, alpha, beta, c, i, 0);
         i += 1;
     }
 }
@@ -323,7 +253,8 @@ pub fn gemv(
 ) -> Answer
     ensures { λ r. ⌜ Gives real32 (Gemv.gemv real32 trans (alpha .0) (lent real32 (now (a .entry)) va) (lent real32 (now (x .entry)) vx) (beta .0) (lent real32 (now (y .entry)) vy)) r (now (y .exit)) ⌝ }
 {
-    let answer = check_gemv(trans, va, a.len(), vx, x.len(), vy, y.len());
+    let quick = quick_gemv(trans, va, a.len(), vx, x.len(), vy, y.len());
+    let answer = check_gemv(quick, trans, va, a.len(), vx, x.len(), vy, y.len());
     if passed(answer) {
         run_column(
             gemv_plan(trans, va, vx, vy),
@@ -351,7 +282,8 @@ pub fn hemv(
 ) -> Answer
     ensures { λ r. ⌜ Gives real32 (Hemv.hemv real32 uplo (alpha .0) (lent real32 (now (a .entry)) va) (lent real32 (now (x .entry)) vx) (beta .0) (lent real32 (now (y .entry)) vy)) r (now (y .exit)) ⌝ }
 {
-    let answer = check_hemv(va, a.len(), vx, x.len(), vy, y.len());
+    let quick = quick_hemv(va, a.len(), vx, x.len(), vy, y.len());
+    let answer = check_hemv(quick, va, a.len(), vx, x.len(), vy, y.len());
     if passed(answer) {
         run_left_column(
             hemv_plan(uplo, va, vx, vy),
@@ -380,7 +312,10 @@ pub fn gemm(
 ) -> Answer
     ensures { λ r. ⌜ Gives real32 (Gemm.gemm real32 ta tb (alpha .0) (lent real32 (now (a .entry)) va) (lent real32 (now (b .entry)) vb) (beta .0) (lent real32 (now (c .entry)) vc)) r (now (c .exit)) ⌝ }
 {
-    let answer = check_gemm(ta, tb, va, a.len(), vb, b.len(), vc, c.len());
+    let left = op_view(ta, va);
+    let right = op_view(tb, vb);
+    let quick = quick_gemm(left, a.len(), right, b.len(), vc, c.len());
+    let answer = check_gemm(quick, ta, tb, va, a.len(), vb, b.len(), vc, c.len());
     if passed(answer) {
         run(
             gemm_plan(ta, tb, va, vb, vc),
@@ -394,10 +329,77 @@ pub fn gemm(
     answer
 }
 
-// A, of which the named triangle is read, on a side of B; its other elements are mirrored, and conjugated where asked.
-fn sided(
+// Row i of symm with A on the left.
+fn symm_left_row(
+    plan: Folded,
+    a: &[f32],
+    b: &[f32],
+    alpha: Real32,
+    beta: Beta32,
+    c: &mut [f32],
+    i: usize,
+)
+    requires { ⌜ FoldedReady plan (real32 .count (now a)) (real32 .count (now b)) (real32 .count (now c)) × ByRow plan × (i < plan .target .rows) ⌝ }
+    ensures { λ _. ⌜ now (c .exit) ≡ rowOf real32 (plan .target) everywhere (foldedChange real32 plan (scaleBy32 beta) (real32 .mul (alpha .0)) (now (a .entry)) (now (b .entry))) i (plan .target .cols) (now (c .entry)) ⌝ }
+{
+    let n = cols(plan.target);
+    let mut j = 0;
+    while j < n {
+        left_entry(plan, a, b, alpha, beta, c, i, j);
+        j += 1;
+    }
+}
+
+// The whole target of symm with A on the left.
+fn run_symm_left(plan: Folded, a: &[f32], b: &[f32], alpha: Real32, beta: Beta32, c: &mut [f32])
+    requires { ⌜ FoldedReady plan (real32 .count (now a)) (real32 .count (now b)) (real32 .count (now c)) × ByRow plan ⌝ }
+    ensures { λ _. ⌜ now (c .exit) ≡ update real32 (plan .target) everywhere (foldedChange real32 plan (scaleBy32 beta) (real32 .mul (alpha .0)) (now (a .entry)) (now (b .entry))) (now (c .entry)) ⌝ }
+{
+    let m = rows(plan.target);
+    let mut i = 0;
+    while i < m {
+        symm_left_row(plan, a, b, alpha, beta, c, i);
+        i += 1;
+    }
+}
+
+// Row i of symm with A on the right.
+fn symm_right_row(
+    plan: Folded,
+    a: &[f32],
+    b: &[f32],
+    alpha: Real32,
+    beta: Beta32,
+    c: &mut [f32],
+    i: usize,
+)
+    requires { ⌜ FoldedReady plan (real32 .count (now a)) (real32 .count (now b)) (real32 .count (now c)) × ByCol plan × (i < plan .target .rows) ⌝ }
+    ensures { λ _. ⌜ now (c .exit) ≡ rowOf real32 (plan .target) everywhere (foldedChange real32 plan (scaleBy32 beta) (real32 .mul (alpha .0)) (now (a .entry)) (now (b .entry))) i (plan .target .cols) (now (c .entry)) ⌝ }
+{
+    let n = cols(plan.target);
+    let mut j = 0;
+    while j < n {
+        right_entry(plan, a, b, alpha, beta, c, i, j);
+        j += 1;
+    }
+}
+
+// The whole target of symm with A on the right.
+fn run_symm_right(plan: Folded, a: &[f32], b: &[f32], alpha: Real32, beta: Beta32, c: &mut [f32])
+    requires { ⌜ FoldedReady plan (real32 .count (now a)) (real32 .count (now b)) (real32 .count (now c)) × ByCol plan ⌝ }
+    ensures { λ _. ⌜ now (c .exit) ≡ update real32 (plan .target) everywhere (foldedChange real32 plan (scaleBy32 beta) (real32 .mul (alpha .0)) (now (a .entry)) (now (b .entry))) (now (c .entry)) ⌝ }
+{
+    let m = rows(plan.target);
+    let mut i = 0;
+    while i < m {
+        symm_right_row(plan, a, b, alpha, beta, c, i);
+        i += 1;
+    }
+}
+
+// A, of which the named triangle is read, on a side of B; its other elements are mirrored.
+fn symm_sided(
     side: Side,
-    conj: bool,
     uplo: UpLo,
     alpha: Real32,
     a: &[f32],
@@ -408,20 +410,20 @@ fn sided(
     c: &mut [f32],
     vc: View,
 )
-    requires { ⌜ ReadySided side conj uplo va (real32 .count (now a)) vb (real32 .count (now b)) vc (real32 .count (now c)) ⌝ }
-    ensures { λ _. ⌜ now (c .exit) ≡ sidedWork real32 side conj uplo va vb vc (scaleBy32 beta) (real32 .mul (alpha .0)) (now (a .entry)) (now (b .entry)) (now (c .entry)) ⌝ }
+    requires { ⌜ ReadySided side false uplo va (real32 .count (now a)) vb (real32 .count (now b)) vc (real32 .count (now c)) ⌝ }
+    ensures { λ _. ⌜ now (c .exit) ≡ sidedWork real32 side false uplo va vb vc (scaleBy32 beta) (real32 .mul (alpha .0)) (now (a .entry)) (now (b .entry)) (now (c .entry)) ⌝ }
 {
     match side {
-        Side::Left => run_left(
-            left_plan(conj, uplo, va, vb, rows(vc), vc),
+        Side::Left => run_symm_left(
+            left_plan(false, uplo, va, vb, rows(vc), vc),
             a,
             b,
             alpha,
             beta,
             c,
         ),
-        Side::Right => run_right(
-            right_plan(conj, uplo, va, vb, cols(vc), vc),
+        Side::Right => run_symm_right(
+            right_plan(false, uplo, va, vb, cols(vc), vc),
             b,
             a,
             alpha,
@@ -446,23 +448,116 @@ pub fn symm(
 ) -> Answer
     ensures { λ r. ⌜ Gives real32 (Symm.symm real32 side uplo (alpha .0) (lent real32 (now (a .entry)) va) (lent real32 (now (b .entry)) vb) (beta .0) (lent real32 (now (c .entry)) vc)) r (now (c .exit)) ⌝ }
 {
-    let answer = check_symm(side, va, a.len(), vb, b.len(), vc, c.len());
+    let quick = quick_symm(side, va, a.len(), vb, b.len(), vc, c.len());
+    let answer = check_symm(quick, side, va, a.len(), vb, b.len(), vc, c.len());
     if passed(answer) {
-        sided(
-            side,
-            false,
-            uplo,
-            alpha,
-            a,
-            va,
-            b,
-            vb,
-            Beta32::judge(beta),
-            c,
-            vc,
-        );
+        symm_sided(side, uplo, alpha, a, va, b, vb, Beta32::judge(beta), c, vc);
     }
     answer
+}
+
+// Row i of hemm with A on the left.
+fn hemm_left_row(
+    plan: Folded,
+    a: &[f32],
+    b: &[f32],
+    alpha: Real32,
+    beta: Beta32,
+    c: &mut [f32],
+    i: usize,
+)
+    requires { ⌜ FoldedReady plan (real32 .count (now a)) (real32 .count (now b)) (real32 .count (now c)) × ByRow plan × (i < plan .target .rows) ⌝ }
+    ensures { λ _. ⌜ now (c .exit) ≡ rowOf real32 (plan .target) everywhere (foldedChange real32 plan (scaleBy32 beta) (real32 .mul (alpha .0)) (now (a .entry)) (now (b .entry))) i (plan .target .cols) (now (c .entry)) ⌝ }
+{
+    let n = cols(plan.target);
+    let mut j = 0;
+    while j < n {
+        left_entry(plan, a, b, alpha, beta, c, i, j);
+        j += 1;
+    }
+}
+
+// The whole target of hemm with A on the left.
+fn run_hemm_left(plan: Folded, a: &[f32], b: &[f32], alpha: Real32, beta: Beta32, c: &mut [f32])
+    requires { ⌜ FoldedReady plan (real32 .count (now a)) (real32 .count (now b)) (real32 .count (now c)) × ByRow plan ⌝ }
+    ensures { λ _. ⌜ now (c .exit) ≡ update real32 (plan .target) everywhere (foldedChange real32 plan (scaleBy32 beta) (real32 .mul (alpha .0)) (now (a .entry)) (now (b .entry))) (now (c .entry)) ⌝ }
+{
+    let m = rows(plan.target);
+    let mut i = 0;
+    while i < m {
+        hemm_left_row(plan, a, b, alpha, beta, c, i);
+        i += 1;
+    }
+}
+
+// Row i of hemm with A on the right.
+fn hemm_right_row(
+    plan: Folded,
+    a: &[f32],
+    b: &[f32],
+    alpha: Real32,
+    beta: Beta32,
+    c: &mut [f32],
+    i: usize,
+)
+    requires { ⌜ FoldedReady plan (real32 .count (now a)) (real32 .count (now b)) (real32 .count (now c)) × ByCol plan × (i < plan .target .rows) ⌝ }
+    ensures { λ _. ⌜ now (c .exit) ≡ rowOf real32 (plan .target) everywhere (foldedChange real32 plan (scaleBy32 beta) (real32 .mul (alpha .0)) (now (a .entry)) (now (b .entry))) i (plan .target .cols) (now (c .entry)) ⌝ }
+{
+    let n = cols(plan.target);
+    let mut j = 0;
+    while j < n {
+        right_entry(plan, a, b, alpha, beta, c, i, j);
+        j += 1;
+    }
+}
+
+// The whole target of hemm with A on the right.
+fn run_hemm_right(plan: Folded, a: &[f32], b: &[f32], alpha: Real32, beta: Beta32, c: &mut [f32])
+    requires { ⌜ FoldedReady plan (real32 .count (now a)) (real32 .count (now b)) (real32 .count (now c)) × ByCol plan ⌝ }
+    ensures { λ _. ⌜ now (c .exit) ≡ update real32 (plan .target) everywhere (foldedChange real32 plan (scaleBy32 beta) (real32 .mul (alpha .0)) (now (a .entry)) (now (b .entry))) (now (c .entry)) ⌝ }
+{
+    let m = rows(plan.target);
+    let mut i = 0;
+    while i < m {
+        hemm_right_row(plan, a, b, alpha, beta, c, i);
+        i += 1;
+    }
+}
+
+// A, of which the named triangle is read, on a side of B; its other elements are mirrored and conjugated.
+fn hemm_sided(
+    side: Side,
+    uplo: UpLo,
+    alpha: Real32,
+    a: &[f32],
+    va: View,
+    b: &[f32],
+    vb: View,
+    beta: Beta32,
+    c: &mut [f32],
+    vc: View,
+)
+    requires { ⌜ ReadySided side true uplo va (real32 .count (now a)) vb (real32 .count (now b)) vc (real32 .count (now c)) ⌝ }
+    ensures { λ _. ⌜ now (c .exit) ≡ sidedWork real32 side true uplo va vb vc (scaleBy32 beta) (real32 .mul (alpha .0)) (now (a .entry)) (now (b .entry)) (now (c .entry)) ⌝ }
+{
+    match side {
+        Side::Left => run_hemm_left(
+            left_plan(true, uplo, va, vb, rows(vc), vc),
+            a,
+            b,
+            alpha,
+            beta,
+            c,
+        ),
+        Side::Right => run_hemm_right(
+            right_plan(true, uplo, va, vb, cols(vc), vc),
+            b,
+            a,
+            alpha,
+            beta,
+            c,
+        ),
+    }
 }
 
 // C ← alpha A B + beta C or alpha B A + beta C, A Hermitian
@@ -480,23 +575,55 @@ pub fn hemm(
 ) -> Answer
     ensures { λ r. ⌜ Gives real32 (Hemm.hemm real32 side uplo (alpha .0) (lent real32 (now (a .entry)) va) (lent real32 (now (b .entry)) vb) (beta .0) (lent real32 (now (c .entry)) vc)) r (now (c .exit)) ⌝ }
 {
-    let answer = check_hemm(side, va, a.len(), vb, b.len(), vc, c.len());
+    let quick = quick_symm(side, va, a.len(), vb, b.len(), vc, c.len());
+    let answer = check_hemm(quick, side, va, a.len(), vb, b.len(), vc, c.len());
     if passed(answer) {
-        sided(
-            side,
-            true,
-            uplo,
-            alpha,
-            a,
-            va,
-            b,
-            vb,
-            Beta32::judge(beta),
-            c,
-            vc,
-        );
+        hemm_sided(side, uplo, alpha, a, va, b, vb, Beta32::judge(beta), c, vc);
     }
     answer
+}
+
+// Row i of the named triangle of syrk's target.
+fn syrk_row(
+    uplo: UpLo,
+    plan: Plan,
+    a: &[f32],
+    b: &[f32],
+    alpha: Real32,
+    beta: Beta32,
+    c: &mut [f32],
+    i: usize,
+)
+    requires { ⌜ Ready plan (real32 .count (now a)) (real32 .count (now b)) (real32 .count (now c)) × (i < plan .target .rows) × (i < plan .target .cols) ⌝ }
+    ensures { λ _. ⌜ now (c .exit) ≡ rowOf real32 (plan .target) (inTriangle uplo) (planChange real32 plan (scaleBy32 beta) (real32 .mul (alpha .0)) (now (a .entry)) (now (b .entry))) i (plan .target .cols) (now (c .entry)) ⌝ }
+{
+    let end = end_col(uplo, i, cols(plan.target));
+    let mut j = first_col(uplo, i);
+    while j < end {
+        entry(plan, a, b, alpha, beta, c, i, j);
+        j += 1;
+    }
+}
+
+// The whole of that triangle.
+fn run_syrk(
+    uplo: UpLo,
+    plan: Plan,
+    a: &[f32],
+    b: &[f32],
+    alpha: Real32,
+    beta: Beta32,
+    c: &mut [f32],
+)
+    requires { ⌜ Ready plan (real32 .count (now a)) (real32 .count (now b)) (real32 .count (now c)) × (plan .target .rows ≡ plan .target .cols) ⌝ }
+    ensures { λ _. ⌜ now (c .exit) ≡ update real32 (plan .target) (inTriangle uplo) (planChange real32 plan (scaleBy32 beta) (real32 .mul (alpha .0)) (now (a .entry)) (now (b .entry))) (now (c .entry)) ⌝ }
+{
+    let m = rows(plan.target);
+    let mut i = 0;
+    while i < m {
+        syrk_row(uplo, plan, a, b, alpha, beta, c, i);
+        i += 1;
+    }
 }
 
 // C ← alpha A Aᵀ + beta C or alpha Aᵀ A + beta C, in the named triangle
@@ -512,9 +639,10 @@ pub fn syrk(
 ) -> Answer
     ensures { λ r. ⌜ Gives real32 (Syrk.syrk real32 uplo trans (alpha .0) (lent real32 (now (a .entry)) va) (beta .0) (lent real32 (now (c .entry)) vc)) r (now (c .exit)) ⌝ }
 {
-    let answer = check_syrk(trans, va, a.len(), vc, c.len());
+    let quick = quick_syrk(trans, va, a.len(), vc, c.len());
+    let answer = check_syrk(quick, trans, va, a.len(), vc, c.len());
     if passed(answer) {
-        run_triangle(
+        run_syrk(
             uplo,
             syrk_plan(trans, va, vc),
             a,
@@ -525,6 +653,49 @@ pub fn syrk(
         );
     }
     answer
+}
+
+// Row i of the named triangle of herk's target.
+fn herk_row(
+    uplo: UpLo,
+    plan: Plan,
+    a: &[f32],
+    b: &[f32],
+    alpha: Real32,
+    beta: Beta32,
+    c: &mut [f32],
+    i: usize,
+)
+    requires { ⌜ Ready plan (real32 .count (now a)) (real32 .count (now b)) (real32 .count (now c)) × (i < plan .target .rows) × (i < plan .target .cols) ⌝ }
+    ensures { λ _. ⌜ now (c .exit) ≡ rowOf real32 (plan .target) (inTriangle uplo) (planChange real32 plan (scaleBy32 beta) (real32 .mul (alpha .0)) (now (a .entry)) (now (b .entry))) i (plan .target .cols) (now (c .entry)) ⌝ }
+{
+    let end = end_col(uplo, i, cols(plan.target));
+    let mut j = first_col(uplo, i);
+    while j < end {
+        entry(plan, a, b, alpha, beta, c, i, j);
+        j += 1;
+    }
+}
+
+// The whole of that triangle.
+fn run_herk(
+    uplo: UpLo,
+    plan: Plan,
+    a: &[f32],
+    b: &[f32],
+    alpha: Real32,
+    beta: Beta32,
+    c: &mut [f32],
+)
+    requires { ⌜ Ready plan (real32 .count (now a)) (real32 .count (now b)) (real32 .count (now c)) × (plan .target .rows ≡ plan .target .cols) ⌝ }
+    ensures { λ _. ⌜ now (c .exit) ≡ update real32 (plan .target) (inTriangle uplo) (planChange real32 plan (scaleBy32 beta) (real32 .mul (alpha .0)) (now (a .entry)) (now (b .entry))) (now (c .entry)) ⌝ }
+{
+    let m = rows(plan.target);
+    let mut i = 0;
+    while i < m {
+        herk_row(uplo, plan, a, b, alpha, beta, c, i);
+        i += 1;
+    }
 }
 
 // C ← alpha A Aᴴ + beta C or alpha Aᴴ A + beta C, in the named triangle, alpha and beta real
@@ -540,9 +711,10 @@ pub fn herk(
 ) -> Answer
     ensures { λ r. ⌜ Gives real32 (Herk.herk real32 uplo trans alpha (lent real32 (now (a .entry)) va) beta (lent real32 (now (c .entry)) vc)) r (now (c .exit)) ⌝ }
 {
-    let answer = check_herk(trans, va, a.len(), vc, c.len());
+    let quick = quick_syrk(trans, va, a.len(), vc, c.len());
+    let answer = check_herk(quick, trans, va, a.len(), vc, c.len());
     if passed(answer) {
-        run_triangle(
+        run_herk(
             uplo,
             herk_plan(trans, va, vc),
             a,

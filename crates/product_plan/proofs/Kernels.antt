@@ -3,7 +3,7 @@
 use Prim.Native.Nat.{ℕ}
 use mathlib.Core.Bool.{Bool, true, false}
 use mathlib.Core.List.{List}
-use mathlib.Core.Path.{_≡_, refl, _∙_}
+use mathlib.Core.Path.{_≡_, refl, ap, _∙_}
 use Rattle.number.specs.Kind.{Kind}
 use Rattle.number.specs.Scaling.{scaled, scaledReal}
 use Rattle.view.specs.declared.View.{View}
@@ -33,7 +33,7 @@ use Rattle.blas.specs.Herk.{herk, herkLeft, herkRight}
 use Rattle.blas.proofs.OutcomeLaws.{check-done, gives-work, gives-refusal}
 use Rattle.product_plan.specs.declared.plan.Plan.{Plan}
 use Rattle.product_plan.specs.declared.plan.Folded.{Folded}
-use Rattle.product_plan.specs.Plan.{planChange, foldedChange, Ready, FoldedReady}
+use Rattle.product_plan.specs.Plan.{planChange, foldedChange, Ready, FoldedReady, ByRow}
 use Rattle.product_plan.specs.Plans.{opPlan, gemmPlan, gemvPlan, leftPlan, rightPlan, hemvPlan, syrkPlan, herkPlan, sidedWork, ReadySided}
 use Rattle.product_plan.proofs.Products.{named, op-product, left-product, right-product}
 use Rattle.product_plan.proofs.Ready.{gemm-ready, gemv-ready, hemv-ready, sided-ready, syrk-ready, herk-ready, target-square}
@@ -81,6 +81,10 @@ module _ (K : Kind) (ta tb : Trans) (alpha : K .Elem) (a b : Lent K) (beta : K .
 
 -- ---- gemv
 
+-- the vector is not conjugated
+pub gemv-plain : (t : Trans) (a x y : View) (plan : Plan) → plan ≡ gemvPlan t a x y → plan .factors .«right_conj» ≡ false
+gemv-plain t a x y plan planned = ap (λ (q : Plan). q .factors .«right_conj») planned
+
 module _ (t : Trans) (a x y : View) (la lx ly : ℕ) (r : Answer) (flag : Bool)
     (answered : r ≡ gemvCheck t a la x lx y ly) (told : flag ≡ isDone r) (passed : flag ≡ true) where
   -- both vectors are vectors
@@ -117,8 +121,10 @@ module _ (uplo : UpLo) (a x y : View) (la lx ly : ℕ) (r : Answer) (flag : Bool
       let s = hemv-sizes a x y (judge-passed _ _ _ (check-done _ r flag answered told passed) .shape) in
       (s .1 .vector, s .2 .vector)
 
-  pub hemv-runs : (plan : Folded) → plan ≡ hemvPlan uplo a x y → FoldedReady plan la lx ly × (plan .target .cols ≡ 1)
-  hemv-runs plan planned = rw planned (hemv-ready uplo a x y la lx ly (judge-passed _ _ _ (check-done _ r flag answered told passed)), refl)
+  pub hemv-runs : (plan : Folded) → plan ≡ hemvPlan uplo a x y → FoldedReady plan la lx ly × ByRow plan × (plan .target .cols ≡ 1)
+  hemv-runs plan planned =
+      let h = hemv-ready uplo a x y la lx ly (judge-passed _ _ _ (check-done _ r flag answered told passed)) in
+      rw planned (h .0, h .1, refl)
 
 module _ (K : Kind) (uplo : UpLo) (alpha : K .Elem) (a x : Lent K) (beta : K .Elem) (y : Lent K)
     (r : Answer) (flag : Bool) (answered : r ≡ hemvCheck (a .view) (K .count (a .slab)) (x .view) (K .count (x .slab)) (y .view) (K .count (y .slab))) (told : flag ≡ isDone r) where

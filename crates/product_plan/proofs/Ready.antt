@@ -1,5 +1,5 @@
 -- A call that its check passes is ready: the plan reads and writes inside the slabs; and what the engine's steps ask follows.
-use Prim.Native.Nat.{ℕ, _≤_, _<_}
+use Prim.Native.Nat.{ℕ, _+_, _≤_, _<_}
 use mathlib.Core.Bool.{Bool, true, false, not}
 use mathlib.Core.List.{[], _∷_}
 use mathlib.Core.Path.{_≡_, refl, sym, subst}
@@ -12,8 +12,8 @@ use Rattle.view.specs.declared.Side.the-variants.{Left, Right}
 use Rattle.view.specs.declared.UpLo.{UpLo}
 use Rattle.view.specs.declared.UpLo.the-variants.{Upper, Lower}
 use Rattle.view.specs.Steps.{Accepted}
-use Rattle.view.specs.Place.{opViewOf}
-use Rattle.view.specs.TransposeLaws.{transposed-accepted}
+use Rattle.view.specs.Place.{index, opViewOf}
+use Rattle.view.specs.TransposeLaws.{transposed-index, transposed-accepted}
 use Rattle.view.specs.Judge.{arg}
 use Rattle.view.specs.Checks.{opRows, opCols, gemvShape, hemvShape, gemmShape, symmShape, syrkShape}
 use Rattle.view.specs.JudgeLaws.{Passed, gemv-sizes, hemv-sizes, gemm-sizes, symm-sizes, syrk-sizes}
@@ -25,7 +25,7 @@ use Rattle.blas.specs.Herk.{herkLeft, herkRight}
 use Rattle.product_plan.specs.declared.plan.Factors.{Factors}
 use Rattle.product_plan.specs.declared.plan.Plan.{Plan}
 use Rattle.product_plan.specs.declared.plan.Folded.{Folded}
-use Rattle.product_plan.specs.Plan.{turnOf, Reads, Spans, Ready, FoldedReady, ByRow}
+use Rattle.product_plan.specs.Plan.{turnOf, Reads, Spans, Ready, FoldedReady, ByRow, LeftWalk, ByCol, RightWalk}
 use Rattle.product_plan.specs.Plans.{opFactors, leftFactors, rightFactors, rowTurn, colTurn, isUpper, leftPlan, rightPlan, gemmPlan, gemvPlan, hemvPlan, syrkPlan, herkPlan, ReadySided}
 
 -- ---- what the engine's steps ask
@@ -40,6 +40,30 @@ ready-kept plan la lb lc lc' e r = subst (λ (k : ℕ). Ready plan la lb k) (sym
 
 pub folded-kept : (plan : Folded) (la lb lc lc' : ℕ) → lc' ≡ lc → FoldedReady plan la lb lc → FoldedReady plan la lb lc'
 folded-kept plan la lb lc lc' e r = subst (λ (k : ℕ). FoldedReady plan la lb k) (sym e) r
+
+-- the terms of an element, walked
+module _ (plan : Folded) (la lb lc i j : ℕ) (r : FoldedReady plan la lb lc) (h : i < plan .target .rows) (g : j < plan .target .cols) where
+  pub left-walk : ByRow plan → LeftWalk plan la lb i j
+  left-walk b =
+      let w = b .within i h in
+      record {
+        by-row = b;
+        some = omega arith;
+        head = λ p l. r .head .left i p h l;
+        tail = λ p l. r .tail .left i p h l;
+        right = λ p l. r .head .right p j l g;
+      }
+
+  pub right-walk : ByCol plan → RightWalk plan la lb i j
+  right-walk b =
+      let w = b .within j g in
+      record {
+        by-col = b;
+        some = omega arith;
+        head = λ p l. r .head .right p j l g;
+        tail = λ p l. r .tail .right p j l g;
+        left = λ p l. r .head .left i p h l;
+      }
 
 -- ---- op(A) op(B)
 
@@ -133,6 +157,43 @@ row-same : (uplo : UpLo) (i j : ℕ) → turnOf (rowTurn uplo) i 0 ≡ turnOf (r
 row-same Upper i j = refl
 row-same Lower i j = refl
 
+row-low : (uplo : UpLo) (i j : ℕ) → i ≤ turnOf (rowTurn uplo) i j
+row-low Upper i j = omega arith
+row-low Lower i j = omega arith
+
+row-high : (uplo : UpLo) (i j : ℕ) → turnOf (rowTurn uplo) i j ≤ i + 1
+row-high Upper i j = omega arith
+row-high Lower i j = omega arith
+
+col-low : (uplo : UpLo) (i j : ℕ) → j ≤ turnOf (colTurn uplo) i j
+col-low Upper i j = omega arith
+col-low Lower i j = omega arith
+
+col-high : (uplo : UpLo) (i j : ℕ) → turnOf (colTurn uplo) i j ≤ j + 1
+col-high Upper i j = omega arith
+col-high Lower i j = omega arith
+
+module _ (conj : Bool) (a b : View) where
+  left-meet : (uplo : UpLo) (i : ℕ) → index (leftFactors (isUpper uplo) conj a b .left) i i ≡ index (leftFactors (not (isUpper uplo)) conj a b .left) i i
+  left-meet Upper i = transposed-index a i i
+  left-meet Lower i = sym (transposed-index a i i)
+
+  left-right : (uplo : UpLo) → leftFactors (not (isUpper uplo)) conj a b .right ≡ leftFactors (isUpper uplo) conj a b .right
+  left-right Upper = refl
+  left-right Lower = refl
+
+  right-meet : (uplo : UpLo) (j : ℕ) → index (rightFactors (not (isUpper uplo)) conj a b .right) j j ≡ index (rightFactors (isUpper uplo) conj a b .right) j j
+  right-meet Upper j = sym (transposed-index a j j)
+  right-meet Lower j = transposed-index a j j
+
+  right-left : (uplo : UpLo) → rightFactors (isUpper uplo) conj a b .left ≡ rightFactors (not (isUpper uplo)) conj a b .left
+  right-left Upper = refl
+  right-left Lower = refl
+
+  left-plain : (mirrored : Bool) → leftFactors mirrored conj a b .«right_conj» ≡ false
+  left-plain true = refl
+  left-plain false = refl
+
 col-turns : (uplo : UpLo) (i j k : ℕ) → j < k → turnOf (colTurn uplo) i j ≤ k
 col-turns Upper i j k h = omega arith
 col-turns Lower i j k h = omega arith
@@ -171,7 +232,18 @@ module _ (conj : Bool) (uplo : UpLo) (a b c : View) (la lb lc k : ℕ) (fa : Acc
       record { target = fc; head = r (isUpper uplo); tail = r (not (isUpper uplo)); turns = λ i j h g. row-turns uplo i j k (omega arith) }
 
   left-by-row : c .rows ≡ k → ByRow (leftPlan conj uplo a b k c)
-  left-by-row ek = record { same = row-same uplo; room = λ i h. row-turns uplo i 0 k (omega arith) }
+  left-by-row ek =
+      record {
+        same = row-same uplo;
+        room = λ i h. row-turns uplo i 0 k (omega arith);
+        within = λ i h. omega arith;
+        low = row-low uplo;
+        high = row-high uplo;
+        meet = left-meet conj a b uplo;
+        right = left-right conj a b uplo;
+        head-plain = left-plain conj a b (isUpper uplo);
+        tail-plain = left-plain conj a b (not (isUpper uplo));
+      }
 
   right-ready : c .cols ≡ k → b .rows ≡ c .rows → b .cols ≡ k → FoldedReady (rightPlan conj uplo a b k c) lb la lc
   right-ready ek br bc =
@@ -179,12 +251,25 @@ module _ (conj : Bool) (uplo : UpLo) (a b c : View) (la lb lc k : ℕ) (fa : Acc
       λ m. subst (λ (z : ℕ). Reads (rightFactors m conj a b) lb la (c .rows) z k) (sym ek) (right-reads conj a b la lb fa fb k er ec (c .rows) br bc m) in
       record { target = fc; head = r (not (isUpper uplo)); tail = r (isUpper uplo); turns = λ i j h g. col-turns uplo i j k (omega arith) }
 
+  right-by-col : c .cols ≡ k → ByCol (rightPlan conj uplo a b k c)
+  right-by-col ek =
+      record {
+        within = λ j h. omega arith;
+        low = col-low uplo;
+        high = col-high uplo;
+        meet = right-meet conj a b uplo;
+        left = right-left conj a b uplo;
+      }
+
 pub hemv-ready : (uplo : UpLo) (a x y : View) (la lx ly : ℕ) → Passed (arg a la ∷ arg x lx ∷ arg y ly ∷ []) (hemvShape a x y) y
-    → FoldedReady (hemvPlan uplo a x y) la lx ly
+    → FoldedReady (hemvPlan uplo a x y) la lx ly × ByRow (hemvPlan uplo a x y)
 hemv-ready uplo a x y la lx ly h =
     let s = hemv-sizes a x y (h .shape) in
-    left-ready true uplo a (columnOf x) (columnOf y) la lx ly (a .rows) (h .each .0) (column-accepted x lx (s .1 .vector) (h .each .1 .0))
-    (column-accepted y ly (s .2 .vector) (h .each .1 .1 .0)) refl (s .0) (s .2 .length) (s .1 .length) refl
+    let cx = column-accepted x lx (s .1 .vector) (h .each .1 .0) in
+    let cy = column-accepted y ly (s .2 .vector) (h .each .1 .1 .0) in (
+      left-ready true uplo a (columnOf x) (columnOf y) la lx ly (a .rows) (h .each .0) cx cy refl (s .0) (s .2 .length) (s .1 .length) refl,
+      left-by-row true uplo a (columnOf x) (columnOf y) la lx ly (a .rows) (h .each .0) cx cy refl (s .0) (s .2 .length),
+    )
 
 pub sided-ready : (side : Side) (conj : Bool) (uplo : UpLo) (a b c : View) (la lb lc : ℕ)
     → Passed (arg a la ∷ arg b lb ∷ arg c lc ∷ []) (symmShape side a b c) c → ReadySided side conj uplo a la b lb c lc
@@ -194,5 +279,7 @@ sided-ready Left conj uplo a b c la lb lc h =
       left-by-row conj uplo a b c la lb lc (c .rows) (h .each .0) (h .each .1 .0) (h .each .1 .1 .0) (s .0) (s .1) refl,
     )
 sided-ready Right conj uplo a b c la lb lc h =
-    let s = symm-sizes Right a b c (h .shape) in
-    right-ready conj uplo a b c la lb lc (c .cols) (h .each .0) (h .each .1 .0) (h .each .1 .1 .0) (s .0) (s .1) refl (s .2) (s .3)
+    let s = symm-sizes Right a b c (h .shape) in (
+      right-ready conj uplo a b c la lb lc (c .cols) (h .each .0) (h .each .1 .0) (h .each .1 .1 .0) (s .0) (s .1) refl (s .2) (s .3),
+      right-by-col conj uplo a b c la lb lc (c .cols) (h .each .0) (h .each .1 .0) (h .each .1 .1 .0) (s .0) (s .1) refl,
+    )

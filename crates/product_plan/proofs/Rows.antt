@@ -11,11 +11,11 @@ use Rattle.view.specs.declared.View.{View}
 use Rattle.view.specs.declared.UpLo.{UpLo}
 use Rattle.view.specs.declared.UpLo.the-variants.{Upper, Lower}
 use Rattle.view.specs.Place.{index}
-use Rattle.view.specs.Triangle.{inTriangle}
+use Rattle.view.specs.Triangle.{inTriangle, firstCol, endCol}
 use Rattle.slab.specs.Update.{Mask, Change, everywhere, row, rows}
 use Rattle.slab.proofs.UpdateLaws.{row-both, row-start}
 use Rattle.slab.proofs.LoopLaws.{rows-next, row-skip, put-next, span}
-use Rattle.product_plan.specs.Plan.{replaced, firstCol, endCol, Columns}
+use Rattle.product_plan.specs.Plan.{replaced, Columns}
 
 -- ---- an element replaced: k is its place, `old` what stands there, `new` what becomes of it
 

@@ -1,6 +1,6 @@
 -- Sums taken in runs: what a run adds, and that the runs before and after a turn are the whole sum.
 use Prim.Native.Nat.{ℕ, zero, suc, _+_, _≤_, _<_, _-_}
-use mathlib.Core.Bool.{Bool, cond}
+use mathlib.Core.Bool.{Bool, false, cond}
 use mathlib.Core.List.{List}
 use mathlib.Core.Path.{_≡_, refl, sym, ap, subst, _∙_}
 use native.Mathlib.Numerals.{add-one}
@@ -64,6 +64,16 @@ module _ (K : Kind) (f : Factors) (a b : List (K .Cell)) (i j : ℕ) (x : K .Ele
       ∙ (λ t. K .add (e t) ((em ∙ (λ s. K .mul (eu s) (ev s)) ∙ ap (λ (z : ℕ). term K f a b i j z) q) t))
       ∙ sym (more-step K (term K f a b i j) x from (p - from))
       ∙ ap (λ (z : ℕ). more K x (term K f a b i j) from z) k
+
+-- the same where the right factors are not conjugated
+pub left-next : (K : Kind) (f : Factors) (a b : List (K .Cell)) (i j : ℕ) (x : K .Elem) (from p : ℕ) (acc u v m next : K .Elem) → from ≤ p → f .«right_conj» ≡ false
+    → acc ≡ more K x (term K f a b i j) from (p - from) → u ≡ plain K (f .«left_conj») a (f .left) i p → v ≡ elem K b (f .right) p j
+    → m ≡ K .mul u v → next ≡ K .add acc m → next ≡ more K x (term K f a b i j) from (p + 1 - from)
+left-next K f a b i j x from p acc u v m next h c e eu ev em en =
+    term-next K f a b i j x from p acc u v m next h e eu
+    (ev ∙ ap (λ (t : Bool). cond t (K .conj (elem K b (f .right) p j)) (elem K b (f .right) p j)) (sym c))
+    em
+    en
 
 -- the same of real numbers, whose conjugates are themselves
 pub real-next : (r : Format) (f : Factors) (a b : List Float) (i j : ℕ) (x : Float) (from p : ℕ) (acc u v m next : Float) → from ≤ p

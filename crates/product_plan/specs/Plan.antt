@@ -1,13 +1,12 @@
 -- The product that all seven routines are: where its factors are read, which elements it writes, and what it leaves.
-use Prim.Native.Nat.{ℕ, _+_, _≤_, _<_}
+use Prim.Native.Nat.{ℕ, _+_, _-_, _^_, _≤_, _<_}
 use mathlib.Core.Bool.{true, false, cond}
 use mathlib.Core.List.{List}
 use mathlib.Core.Path.{_≡_}
 use lib.Dec.{ltb}
+use lib.IntN.{ℤ, pos, negsuc}
 use Rattle.number.specs.Kind.{Kind}
 use Rattle.view.specs.declared.View.{View}
-use Rattle.view.specs.declared.UpLo.{UpLo}
-use Rattle.view.specs.declared.UpLo.the-variants.{Upper, Lower}
 use Rattle.view.specs.Place.{index}
 use Rattle.view.specs.Steps.{Accepted}
 use Rattle.slab.specs.Run.{plain}
@@ -56,15 +55,18 @@ foldedChange K plan byBeta byAlpha a b = accumulate K byBeta byAlpha (foldedProd
 abbrev pub replaced : (K : Kind) → View → ℕ → ℕ → (K .Elem → K .Elem) → List (K .Cell) → List (K .Cell)
 replaced K v i j f s = K .put s (index v i j) (f (elem K s v i j))
 
--- ---- the columns of row i in the named triangle: from the first to before the end
+-- ---- a row or a column walked by adding to a place, modulo 2^64
 
-abbrev pub firstCol : UpLo → ℕ → ℕ
-firstCol Upper i = i
-firstCol Lower i = 0
+-- what a stride adds
+abbrev pub stepOf : ℤ → ℕ
+stepOf (pos n) = n
+stepOf (negsuc n) = 2 ^ 64 - 1 - n
 
-abbrev pub endCol : UpLo → ℕ → ℕ → ℕ
-endCol Upper i n = n
-endCol Lower i n = i + 1
+-- what is added to the place of term p, where the stride changes at term i
+abbrev pub bentStep : ℕ → ℕ → ℕ → ℕ → ℕ
+bentStep before after i p = cond (ltb p i) before after
+
+-- ---- the columns of a row that are written
 
 -- of the first n columns of row i the mask admits those from `first` to before `end`
 pub record Columns (mask : Update.Mask) (i n first end : ℕ) : Type 0 where
@@ -97,7 +99,39 @@ pub record FoldedReady (plan : Folded) (la lb lc : ℕ) : Type 0 where
   pub tail : Reads (plan .tail) la lb (plan .target .rows) (plan .target .cols) (plan .terms)
   pub turns : (i j : ℕ) → i < plan .target .rows → j < plan .target .cols → turnOf (plan .turn) i j ≤ plan .terms
 
--- the turn is the same in all columns of a row
+-- the left operand is folded: the turn is the same in all columns of a row, at the diagonal or past it, and both ways of reading the row
+-- meet there; the right operand is read in one way, as it is
 pub record ByRow (plan : Folded) : Type 0 where
   pub same : (i j : ℕ) → turnOf (plan .turn) i 0 ≡ turnOf (plan .turn) i j
   pub room : (i : ℕ) → i < plan .target .rows → turnOf (plan .turn) i 0 ≤ plan .terms
+  pub within : (i : ℕ) → i < plan .target .rows → i < plan .terms
+  pub low : (i j : ℕ) → i ≤ turnOf (plan .turn) i j
+  pub high : (i j : ℕ) → turnOf (plan .turn) i j ≤ i + 1
+  pub meet : (i : ℕ) → index (plan .head .left) i i ≡ index (plan .tail .left) i i
+  pub right : plan .tail .right ≡ plan .head .right
+  pub head-plain : plan .head .«right_conj» ≡ false
+  pub tail-plain : plan .tail .«right_conj» ≡ false
+
+-- the terms of element (i, j) of such a plan are inside the slabs, and there are some
+pub record LeftWalk (plan : Folded) (la lb i j : ℕ) : Type 0 where
+  pub by-row : ByRow plan
+  pub some : 0 < plan .terms
+  pub head : (p : ℕ) → p < plan .terms → Shows (plan .head .left) la i p
+  pub tail : (p : ℕ) → p < plan .terms → Shows (plan .tail .left) la i p
+  pub right : (p : ℕ) → p < plan .terms → Shows (plan .head .right) lb p j
+
+-- the right operand is folded: the turn of column j is at the diagonal or past it, and both ways of reading the column meet there; the
+-- left operand is read in one way
+pub record ByCol (plan : Folded) : Type 0 where
+  pub within : (j : ℕ) → j < plan .target .cols → j < plan .terms
+  pub low : (i j : ℕ) → j ≤ turnOf (plan .turn) i j
+  pub high : (i j : ℕ) → turnOf (plan .turn) i j ≤ j + 1
+  pub meet : (j : ℕ) → index (plan .head .right) j j ≡ index (plan .tail .right) j j
+  pub left : plan .tail .left ≡ plan .head .left
+
+pub record RightWalk (plan : Folded) (la lb i j : ℕ) : Type 0 where
+  pub by-col : ByCol plan
+  pub some : 0 < plan .terms
+  pub head : (p : ℕ) → p < plan .terms → Shows (plan .head .right) lb p j
+  pub tail : (p : ℕ) → p < plan .terms → Shows (plan .tail .right) lb p j
+  pub left : (p : ℕ) → p < plan .terms → Shows (plan .head .left) la i p

@@ -1,9 +1,9 @@
 // The plan of a product: the same for every number kind.
 
 ghost use mathlib.Core.Path.{_≡_};
-ghost use Prim.Native.Nat.{_≤_, _<_};
-ghost use Rattle.product_plan.specs.Plan.{firstCol, endCol, turnOf};
-use view::UpLo;
+ghost use Prim.Native.Nat.{_+_, _%_, _^_, _≤_};
+ghost use Rattle.product_plan.specs.Plan.{turnOf, stepOf, bentStep};
+use std::num::wrapping_add_usize;
 use view::View;
 
 // Where the factors of a term are read: (i, p) of the left view and (p, j) of the right one, and whether they are conjugated.
@@ -51,23 +51,38 @@ pub fn turn_at(t: Turn, i: usize, j: usize, n: usize) -> usize
     }
 }
 
-// The first column of row i in the named triangle.
-pub fn first_col(uplo: UpLo, i: usize) -> usize
-    ensures { λ r. ⌜ r ≡ firstCol uplo i ⌝ }
+// A stride as what it adds to a place, modulo 2^64.
+fn step(z: i64) -> usize
+    ensures { λ r. ⌜ r ≡ stepOf z ⌝ }
 {
-    match uplo {
-        UpLo::Upper => i,
-        UpLo::Lower => 0,
+    if z < 0 {
+        usize::MAX - (-1 - z) as usize
+    } else {
+        z as usize
     }
 }
 
-// The column after the last one, with n columns.
-pub fn end_col(uplo: UpLo, i: usize, n: usize) -> usize
-    requires { ⌜ i < n ⌝ }
-    ensures { λ r. ⌜ r ≡ endCol uplo i n ⌝ }
+// What a step to the next column adds.
+pub fn col_step(v: View) -> usize
+    ensures { λ r. ⌜ r ≡ stepOf (v .cs) ⌝ }
 {
-    match uplo {
-        UpLo::Upper => n,
-        UpLo::Lower => i + 1,
+    step(v.cs)
+}
+
+// What a step to the next row adds.
+pub fn row_step(v: View) -> usize
+    ensures { λ r. ⌜ r ≡ stepOf (v .rs) ⌝ }
+{
+    step(v.rs)
+}
+
+// The place after place k, that of term p: a line goes by one step to term i, and by another from there.
+pub fn next_place(k: usize, before: usize, after: usize, i: usize, p: usize) -> usize
+    ensures { λ r. ⌜ r ≡ (k + bentStep before after i p) % 2 ^ 64 ⌝ }
+{
+    if p < i {
+        wrapping_add_usize(k, before)
+    } else {
+        wrapping_add_usize(k, after)
     }
 }

@@ -14,11 +14,16 @@ ghost use Rattle.blas.specs.Her2k;
 ghost use Rattle.blas.specs.Syr2k;
 ghost use Rattle.rank_plan.specs.Change.{replaced, reading, addOne, addTwo, pairAt, pairsAt, weighedAt, weighedsAt, syr2kChange, her2kChange};
 ghost use Rattle.rank_plan.specs.Ready.{One, Two, Entry, Paired};
+use judge::check_her;
+use judge::check_her2;
+use judge::check_her2k;
+use judge::check_syr2k;
+use judge::quick_her;
+use judge::quick_her2;
+use judge::quick_syr2k;
 use number::BetaComplex;
 use number::Complex;
 use rank_plan::Plan;
-use rank_plan::end_col;
-use rank_plan::first_col;
 use rank_plan::her2k_plan;
 use rank_plan::syr2k_plan;
 use slab::elem_complex;
@@ -28,12 +33,10 @@ use view::Answer;
 use view::Trans;
 use view::UpLo;
 use view::View;
-use view::check_her;
-use view::check_her2;
-use view::check_her2k;
-use view::check_syr2k;
 use view::cols;
 use view::column;
+use view::end_col;
+use view::first_col;
 use view::passed;
 use view::place;
 use view::rows;
@@ -335,7 +338,8 @@ fn her2k_rows(alpha: Complex, beta: BetaComplex, plan: Plan, a: &[f64], b: &[f64
 pub fn her(uplo: UpLo, alpha: f64, x: &[f64], vx: View, a: &mut [f64], va: View) -> Answer
     ensures { λ r. ⌜ Gives complex (Her.her complex uplo alpha (lent complex (now (x .entry)) vx) (lent complex (now (a .entry)) va)) r (now (a .exit)) ⌝ }
 {
-    let answer = check_her(vx, x.len() / 2, va, a.len() / 2);
+    let quick = quick_her(vx, x.len() / 2, va, a.len() / 2);
+    let answer = check_her(quick, vx, x.len() / 2, va, a.len() / 2);
     if passed(answer) {
         her_rows(uplo, alpha, x, column(vx), a, va);
     }
@@ -355,7 +359,8 @@ pub fn her2(
 ) -> Answer
     ensures { λ r. ⌜ Gives complex (Her2.her2 complex uplo alpha (lent complex (now (x .entry)) vx) (lent complex (now (y .entry)) vy) (lent complex (now (a .entry)) va)) r (now (a .exit)) ⌝ }
 {
-    let answer = check_her2(vx, x.len() / 2, vy, y.len() / 2, va, a.len() / 2);
+    let quick = quick_her2(vx, x.len() / 2, vy, y.len() / 2, va, a.len() / 2);
+    let answer = check_her2(quick, vx, x.len() / 2, vy, y.len() / 2, va, a.len() / 2);
     if passed(answer) {
         her2_rows(uplo, alpha, x, column(vx), y, column(vy), a, va);
     }
@@ -377,7 +382,17 @@ pub fn syr2k(
 ) -> Answer
     ensures { λ r. ⌜ Gives complex (Syr2k.syr2k complex uplo trans alpha (lent complex (now (a .entry)) va) (lent complex (now (b .entry)) vb) beta (lent complex (now (c .entry)) vc)) r (now (c .exit)) ⌝ }
 {
-    let answer = check_syr2k(trans, va, a.len() / 2, vb, b.len() / 2, vc, c.len() / 2);
+    let quick = quick_syr2k(trans, va, a.len() / 2, vb, b.len() / 2, vc, c.len() / 2);
+    let answer = check_syr2k(
+        quick,
+        trans,
+        va,
+        a.len() / 2,
+        vb,
+        b.len() / 2,
+        vc,
+        c.len() / 2,
+    );
     if passed(answer) {
         let plan = syr2k_plan(uplo, trans, va, vb, vc);
         syr2k_rows(alpha, BetaComplex::judge(beta), plan, a, b, c);
@@ -400,7 +415,17 @@ pub fn her2k(
 ) -> Answer
     ensures { λ r. ⌜ Gives complex (Her2k.her2k complex uplo trans alpha (lent complex (now (a .entry)) va) (lent complex (now (b .entry)) vb) beta (lent complex (now (c .entry)) vc)) r (now (c .exit)) ⌝ }
 {
-    let answer = check_her2k(trans, va, a.len() / 2, vb, b.len() / 2, vc, c.len() / 2);
+    let quick = quick_syr2k(trans, va, a.len() / 2, vb, b.len() / 2, vc, c.len() / 2);
+    let answer = check_her2k(
+        quick,
+        trans,
+        va,
+        a.len() / 2,
+        vb,
+        b.len() / 2,
+        vc,
+        c.len() / 2,
+    );
     if passed(answer) {
         let plan = her2k_plan(uplo, trans, va, vb, vc);
         her2k_rows(alpha, BetaComplex::judge_real(beta), plan, a, b, c);

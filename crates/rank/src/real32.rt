@@ -14,11 +14,16 @@ ghost use Rattle.blas.specs.Her2k;
 ghost use Rattle.blas.specs.Syr2k;
 ghost use Rattle.rank_plan.specs.Change.{replaced, reading, addOne, addTwo, pairAt, pairsAt, weighedAt, weighedsAt, syr2kChange, her2kChange};
 ghost use Rattle.rank_plan.specs.Ready.{One, Two, Entry, Paired};
+use judge::check_her;
+use judge::check_her2;
+use judge::check_her2k;
+use judge::check_syr2k;
+use judge::quick_her;
+use judge::quick_her2;
+use judge::quick_syr2k;
 use number::Beta32;
 use number::Real32;
 use rank_plan::Plan;
-use rank_plan::end_col;
-use rank_plan::first_col;
 use rank_plan::her2k_plan;
 use rank_plan::syr2k_plan;
 use slab::elem32;
@@ -28,12 +33,10 @@ use view::Answer;
 use view::Trans;
 use view::UpLo;
 use view::View;
-use view::check_her;
-use view::check_her2;
-use view::check_her2k;
-use view::check_syr2k;
 use view::cols;
 use view::column;
+use view::end_col;
+use view::first_col;
 use view::passed;
 use view::place;
 use view::rows;
@@ -319,7 +322,8 @@ fn her2k_rows(alpha: Real32, beta: Beta32, plan: Plan, a: &[f32], b: &[f32], c: 
 pub fn her(uplo: UpLo, alpha: f32, x: &[f32], vx: View, a: &mut [f32], va: View) -> Answer
     ensures { λ r. ⌜ Gives real32 (Her.her real32 uplo alpha (lent real32 (now (x .entry)) vx) (lent real32 (now (a .entry)) va)) r (now (a .exit)) ⌝ }
 {
-    let answer = check_her(vx, x.len(), va, a.len());
+    let quick = quick_her(vx, x.len(), va, a.len());
+    let answer = check_her(quick, vx, x.len(), va, a.len());
     if passed(answer) {
         her_rows(uplo, alpha, x, column(vx), a, va);
     }
@@ -339,7 +343,8 @@ pub fn her2(
 ) -> Answer
     ensures { λ r. ⌜ Gives real32 (Her2.her2 real32 uplo (alpha .0) (lent real32 (now (x .entry)) vx) (lent real32 (now (y .entry)) vy) (lent real32 (now (a .entry)) va)) r (now (a .exit)) ⌝ }
 {
-    let answer = check_her2(vx, x.len(), vy, y.len(), va, a.len());
+    let quick = quick_her2(vx, x.len(), vy, y.len(), va, a.len());
+    let answer = check_her2(quick, vx, x.len(), vy, y.len(), va, a.len());
     if passed(answer) {
         her2_rows(uplo, alpha, x, column(vx), y, column(vy), a, va);
     }
@@ -361,7 +366,8 @@ pub fn syr2k(
 ) -> Answer
     ensures { λ r. ⌜ Gives real32 (Syr2k.syr2k real32 uplo trans (alpha .0) (lent real32 (now (a .entry)) va) (lent real32 (now (b .entry)) vb) (beta .0) (lent real32 (now (c .entry)) vc)) r (now (c .exit)) ⌝ }
 {
-    let answer = check_syr2k(trans, va, a.len(), vb, b.len(), vc, c.len());
+    let quick = quick_syr2k(trans, va, a.len(), vb, b.len(), vc, c.len());
+    let answer = check_syr2k(quick, trans, va, a.len(), vb, b.len(), vc, c.len());
     if passed(answer) {
         let plan = syr2k_plan(uplo, trans, va, vb, vc);
         syr2k_rows(alpha, Beta32::judge(beta), plan, a, b, c);
@@ -384,7 +390,8 @@ pub fn her2k(
 ) -> Answer
     ensures { λ r. ⌜ Gives real32 (Her2k.her2k real32 uplo trans (alpha .0) (lent real32 (now (a .entry)) va) (lent real32 (now (b .entry)) vb) beta (lent real32 (now (c .entry)) vc)) r (now (c .exit)) ⌝ }
 {
-    let answer = check_her2k(trans, va, a.len(), vb, b.len(), vc, c.len());
+    let quick = quick_syr2k(trans, va, a.len(), vb, b.len(), vc, c.len());
+    let answer = check_her2k(quick, trans, va, a.len(), vb, b.len(), vc, c.len());
     if passed(answer) {
         let plan = her2k_plan(uplo, trans, va, vb, vc);
         her2k_rows(alpha, Beta32::judge(Real32(beta)), plan, a, b, c);

@@ -9,14 +9,13 @@ use Rattle.number.specs.Kind.{Kind}
 use Rattle.view.specs.declared.View.{View}
 use Rattle.view.specs.declared.UpLo.{UpLo}
 use Rattle.view.specs.declared.UpLo.the-variants.{Upper, Lower}
-use Rattle.view.specs.Triangle.{inTriangle}
+use Rattle.view.specs.Triangle.{inTriangle, firstCol, endCol}
 use Rattle.view.specs.Place.{index}
 use Rattle.slab.specs.Elem.{elem}
 use Rattle.slab.specs.Update.{Change, row}
 use Rattle.slab.proofs.UpdateLaws.{row-both, row-start}
 use Rattle.slab.proofs.LoopLaws.{row-skip}
 pub use Rattle.slab.proofs.LoopLaws.{span, span-start, span-next}
-use Rattle.rank_plan.specs.Columns.{firstCol, endCol}
 use Rattle.rank_plan.specs.Change.{replaced}
 use Rattle.rank_plan.specs.Ready.{Square}
 

@@ -1,6 +1,5 @@
--- What the contracts of the rank updates cite: the columns of a row in the named triangle, the plan of two matrices, what becomes of an element of the target,
+-- What the contracts of the rank updates cite: the plan of two matrices, what becomes of an element of the target,
 -- and what they ask of the slabs.
-pub mod Columns
 pub mod Plan
 pub mod Change
 pub mod Ready

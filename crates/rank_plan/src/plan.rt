@@ -1,8 +1,6 @@
-// What the rank updates share between the number kinds: the columns of a row in the named triangle, and the plan of two matrices.
+// The plan of two matrices: the same for every number kind.
 
 ghost use mathlib.Core.Path.{_≡_};
-ghost use Prim.Native.Nat.{_<_};
-ghost use Rattle.rank_plan.specs.Columns.{firstCol, endCol};
 ghost use Rattle.rank_plan.specs.Plan.{syrReadings, herReadings, pairedPlan, syr2kPlan, her2kPlan};
 use view::Trans;
 use view::UpLo;
@@ -10,27 +8,6 @@ use view::View;
 use view::conjugates;
 use view::op_cols;
 use view::op_view;
-
-// The first column of row i in the named triangle.
-pub fn first_col(uplo: UpLo, i: usize) -> usize
-    ensures { λ r. ⌜ r ≡ firstCol uplo i ⌝ }
-{
-    match uplo {
-        UpLo::Upper => i,
-        UpLo::Lower => 0,
-    }
-}
-
-// The column after the last one, with n columns.
-pub fn end_col(uplo: UpLo, i: usize, n: usize) -> usize
-    requires { ⌜ i < n ⌝ }
-    ensures { λ r. ⌜ r ≡ endCol uplo i n ⌝ }
-{
-    match uplo {
-        UpLo::Upper => n,
-        UpLo::Lower => i + 1,
-    }
-}
 
 // How the left and the right factor of a product are read.
 pub struct Readings {

@@ -1,4 +1,6 @@
 // Replays the list of checks: the refusals 1 to 4 of the fifteen routines, by views and lengths alone.
+mod checks;
+
 use list::check_length;
 use list::check_view;
 use list::side;
@@ -64,13 +66,13 @@ fn two_views(body: &[u8]) -> u8 {
     let b = check_view(body, 1);
     let lb = check_length(body, 1);
     match list::routine(body) {
-        2 => view::number(view::check_her(a, la, b, lb)),
-        4 => view::number(view::check_trmv(a, la, b, lb)),
-        5 => view::number(view::check_trsv(a, la, b, lb)),
-        9 => view::number(view::check_syrk(trans(body, 1), a, la, b, lb)),
-        10 => view::number(view::check_herk(trans(body, 1), a, la, b, lb)),
-        13 => view::number(view::check_trmm(side(body, 0), a, la, b, lb)),
-        14 => view::number(view::check_trsm(side(body, 0), a, la, b, lb)),
+        2 => view::number(checks::her(a, la, b, lb)),
+        4 => view::number(checks::trmv(a, la, b, lb)),
+        5 => view::number(checks::trsv(a, la, b, lb)),
+        9 => view::number(checks::syrk(trans(body, 1), a, la, b, lb)),
+        10 => view::number(checks::herk(trans(body, 1), a, la, b, lb)),
+        13 => view::number(checks::trmm(side(body, 0), a, la, b, lb)),
+        14 => view::number(checks::trsm(side(body, 0), a, la, b, lb)),
         _ => 255,
     }
 }
@@ -86,14 +88,14 @@ fn three_views(body: &[u8]) -> u8 {
     let s = side(body, 0);
     let u = trans(body, 1);
     match list::routine(body) {
-        0 => view::number(view::check_gemv(t, a, la, b, lb, c, lc)),
-        1 => view::number(view::check_hemv(a, la, b, lb, c, lc)),
-        3 => view::number(view::check_her2(a, la, b, lb, c, lc)),
-        6 => view::number(view::check_gemm(t, u, a, la, b, lb, c, lc)),
-        7 => view::number(view::check_symm(s, a, la, b, lb, c, lc)),
-        8 => view::number(view::check_hemm(s, a, la, b, lb, c, lc)),
-        11 => view::number(view::check_syr2k(u, a, la, b, lb, c, lc)),
-        12 => view::number(view::check_her2k(u, a, la, b, lb, c, lc)),
+        0 => view::number(checks::gemv(t, a, la, b, lb, c, lc)),
+        1 => view::number(checks::hemv(a, la, b, lb, c, lc)),
+        3 => view::number(checks::her2(a, la, b, lb, c, lc)),
+        6 => view::number(checks::gemm(t, u, a, la, b, lb, c, lc)),
+        7 => view::number(checks::symm(s, a, la, b, lb, c, lc)),
+        8 => view::number(checks::hemm(s, a, la, b, lb, c, lc)),
+        11 => view::number(checks::syr2k(u, a, la, b, lb, c, lc)),
+        12 => view::number(checks::her2k(u, a, la, b, lb, c, lc)),
         _ => 255,
     }
 }

@@ -1,7 +1,7 @@
 // The triangular products and solves of complex numbers.
 
 ghost use mathlib.Core.Path.{_≡_};
-ghost use Prim.Native.Nat.{_+_, _-_, _<_};
+ghost use Prim.Native.Nat.{_≤_, _<_};
 ghost use Rattle.number.specs.Kind.{complex};
 ghost use Rattle.view.specs.Steps.{Accepted};
 ghost use Rattle.slab.specs.Elem.{elem, lent, Shows};
@@ -20,11 +20,21 @@ ghost use Rattle.order.specs.Triangles.{timesIf};
 ghost use Rattle.order.specs.Solve as solve;
 ghost use Rattle.order.specs.Multiply as multiply;
 ghost use Rattle.order.specs.Ready.{Pivots, Ready, ReadyAt, Sided};
+use judge::check_trmm;
+use judge::check_trmv;
+use judge::check_trsm;
+use judge::check_trsv;
+use judge::quick_trmm;
+use judge::quick_trmv;
 use number::Complex;
 use order::System;
 use order::in_order;
+use order::is_left;
 use order::least_solved;
 use order::line;
+use order::lines_solved;
+use order::solved;
+use order::stops;
 use order::system_of;
 use order::turn;
 use slab::elem_complex;
@@ -35,10 +45,6 @@ use view::Side;
 use view::Trans;
 use view::UpLo;
 use view::View;
-use view::check_trmm;
-use view::check_trmv;
-use view::check_trsm;
-use view::check_trsv;
 use view::cols;
 use view::column;
 use view::passed;
@@ -54,19 +60,8 @@ fn at(conjugated: bool, s: &[f64], v: View, i: usize, j: usize) -> Complex
     if conjugated { x.conj() } else { x }
 }
 
-// A coefficient times an unknown, in the side's order of operands.
-fn weigh(side: Side, c: Complex, x: Complex) -> Complex
-    ensures { λ r. ⌜ r ≡ triangles.weigh complex side c x ⌝ }
-{
-    match side {
-        Side::Left => c.mul(x),
-        Side::Right => x.mul(c),
-    }
-}
-
 // x less n terms of row q by column l, from `from` on.
 fn reduce(
-    side: Side,
     conjugated: bool,
     a: &[f64],
     va: View,
@@ -79,13 +74,13 @@ fn reduce(
     x: Complex,
 ) -> Complex
     requires { ⌜ Spans va (complex .count (now a)) vb (complex .count (now b)) q l from n ⌝ }
-    ensures { λ r. ⌜ r ≡ less complex x (λ p. triangles.weigh complex side (plain complex conjugated (now (a .entry)) va q p) (elem complex (now (b .entry)) vb p l)) from n ⌝ }
+    ensures { λ r. ⌜ r ≡ less complex x (λ p. complex .mul (plain complex conjugated (now (a .entry)) va q p) (elem complex (now (b .entry)) vb p l)) from n ⌝ }
 {
     let mut rest = x;
     let mut i = 0;
     while i < n {
         let p = from + i;
-        rest = rest.sub(weigh(side, at(conjugated, a, va, q, p), elem_complex(b, vb, p, l)));
+        rest = rest.sub(at(conjugated, a, va, q, p).mul(elem_complex(b, vb, p, l)));
         i += 1;
     }
     rest
@@ -93,7 +88,6 @@ fn reduce(
 
 // x and n such terms more.
 fn add_run(
-    side: Side,
     conjugated: bool,
     a: &[f64],
     va: View,
@@ -106,13 +100,13 @@ fn add_run(
     x: Complex,
 ) -> Complex
     requires { ⌜ Spans va (complex .count (now a)) vb (complex .count (now b)) q l from n ⌝ }
-    ensures { λ r. ⌜ r ≡ more complex x (λ p. triangles.weigh complex side (plain complex conjugated (now (a .entry)) va q p) (elem complex (now (b .entry)) vb p l)) from n ⌝ }
+    ensures { λ r. ⌜ r ≡ more complex x (λ p. complex .mul (plain complex conjugated (now (a .entry)) va q p) (elem complex (now (b .entry)) vb p l)) from n ⌝ }
 {
     let mut sum = x;
     let mut i = 0;
     while i < n {
         let p = from + i;
-        sum = sum.add(weigh(side, at(conjugated, a, va, q, p), elem_complex(b, vb, p, l)));
+        sum = sum.add(at(conjugated, a, va, q, p).mul(elem_complex(b, vb, p, l)));
         i += 1;
     }
     sum
@@ -151,15 +145,29 @@ fn solve_one(sys: System, times: bool, alpha: Complex, a: &[f64], b: &mut [f64],
     requires { ⌜ ReadyAt sys (complex .count (now a)) (complex .count (now b)) k l ⌝ }
     ensures { λ _. ⌜ now (b .exit) ≡ solve.solveOne complex sys (timesIf complex times alpha) (now (a .entry)) k l (now (b .entry)) ⌝ }
 {
-    let side = sys.side;
     let diag = sys.diag;
     let m = rows(sys.b);
     let q = in_order(sys.last, m, k);
     let from = least_solved(sys.last, m, k);
     let x = times_if(times, alpha, elem_complex(b, sys.b, q, l));
-    let rest = reduce(side, sys.conjugated, a, sys.a, b, sys.b, q, l, from, k, x);
+    let rest = reduce(sys.conjugated, a, sys.a, b, sys.b, q, l, from, k, x);
     let y = by_pivot(diag, sys.conjugated, a, sys.a, q, rest);
     put_complex(b, place(sys.b, q, l), y);
+}
+
+// The unknown of a vector that comes after k others, solved.
+fn solve_next(sys: System, a: &[f64], b: &mut [f64], k: usize)
+    requires { ⌜ ReadyAt sys (complex .count (now a)) (complex .count (now b)) k 0 ⌝ }
+    ensures { λ _. ⌜ now (b .exit) ≡ solve.solveOne complex sys (λ x. x) (now (a .entry)) k 0 (now (b .entry)) ⌝ }
+{
+    let diag = sys.diag;
+    let m = rows(sys.b);
+    let q = in_order(sys.last, m, k);
+    let from = least_solved(sys.last, m, k);
+    let x = elem_complex(b, sys.b, q, 0);
+    let rest = reduce(sys.conjugated, a, sys.a, b, sys.b, q, 0, from, k, x);
+    let y = by_pivot(diag, sys.conjugated, a, sys.a, q, rest);
+    put_complex(b, place(sys.b, q, 0), y);
 }
 
 // Whether the pivot of the unknown that comes after k others is zero.
@@ -172,10 +180,27 @@ fn meets_zero(sys: System, a: &[f64], k: usize) -> bool
     zero_pivot(diag, a, sys.a, q)
 }
 
-// The first line's unknowns, up to the first zero pivot: how many come before it.
-fn solve_first(sys: System, times: bool, alpha: Complex, a: &[f64], b: &mut [f64]) -> usize
-    requires { ⌜ Ready sys (complex .count (now a)) (complex .count (now b)) × (0 < sys .b .cols) ⌝ }
-    ensures { λ r. ⌜ (r ≡ solve.firstZero complex sys (now (a .entry))) × (now (b .exit) ≡ solve.solveLine complex sys (timesIf complex times alpha) (now (a .entry)) 0 r (now (b .entry))) ⌝ }
+// The unknowns of a vector, up to the first zero pivot.
+fn solve_vector(sys: System, a: &[f64], b: &mut [f64]) -> Answer
+    requires { ⌜ Ready sys (complex .count (now a)) (complex .count (now b)) × (sys .b .cols ≡ 1) ⌝ }
+    ensures { λ r. ⌜ solve.Solved complex sys (λ x. x) (now (a .entry)) (now (b .entry)) r (now (b .exit)) ⌝ }
+{
+    let n = rows(sys.b);
+    let mut k = 0;
+    while k < n {
+        if meets_zero(sys, a, k) {
+            return Answer::Singular;
+        }
+        solve_next(sys, a, b, k);
+        k += 1;
+    }
+    Answer::Done
+}
+
+// How many unknowns come before the first zero pivot.
+fn first_zero(sys: System, a: &[f64]) -> usize
+    requires { ⌜ Pivots sys (complex .count (now a)) ⌝ }
+    ensures { λ r. ⌜ r ≡ solve.firstZero complex sys (now (a .entry)) ⌝ }
 {
     let m = rows(sys.b);
     let mut k = 0;
@@ -183,44 +208,24 @@ fn solve_first(sys: System, times: bool, alpha: Complex, a: &[f64], b: &mut [f64
         if meets_zero(sys, a, k) {
             return k;
         }
-        solve_one(sys, times, alpha, a, b, k, 0);
         k += 1;
     }
     k
 }
 
-// Every unknown of line l.
-fn solve_line(sys: System, times: bool, alpha: Complex, a: &[f64], b: &mut [f64], l: usize)
-    requires { ⌜ Ready sys (complex .count (now a)) (complex .count (now b)) × (l < sys .b .cols) ⌝ }
-    ensures { λ _. ⌜ now (b .exit) ≡ solve.solveLine complex sys (timesIf complex times alpha) (now (a .entry)) l (sys .b .rows) (now (b .entry)) ⌝ }
+// The unknown that comes after k others, in the first n lines.
+fn solve_across(
+    sys: System,
+    times: bool,
+    alpha: Complex,
+    a: &[f64],
+    b: &mut [f64],
+    n: usize,
+    k: usize,
+)
+    requires { ⌜ Ready sys (complex .count (now a)) (complex .count (now b)) × ((n ≤ sys .b .cols) × (k < sys .b .rows)) ⌝ }
+    ensures { λ _. ⌜ now (b .exit) ≡ solve.solveAcross complex sys (timesIf complex times alpha) (now (a .entry)) n k (now (b .entry)) ⌝ }
 {
-    let n = rows(sys.b);
-    let mut k = 0;
-    while k < n {
-        solve_one(sys, times, alpha, a, b, k, l);
-        k += 1;
-    }
-}
-
-// The lines after the first.
-fn solve_others(sys: System, times: bool, alpha: Complex, a: &[f64], b: &mut [f64])
-    requires { ⌜ Ready sys (complex .count (now a)) (complex .count (now b)) × (0 < sys .b .cols) ⌝ }
-    ensures { λ _. ⌜ now (b .exit) ≡ walk (sys .b .cols - 1) (λ l. solve.solveLine complex sys (timesIf complex times alpha) (now (a .entry)) (l + 1) (sys .b .rows)) (now (b .entry)) ⌝ }
-{
-    let n = cols(sys.b) - 1;
-    let mut l = 0;
-    while l < n {
-        solve_line(sys, times, alpha, a, b, l + 1);
-        l += 1;
-    }
-}
-
-// The unknown that comes after k others, in every line.
-fn solve_across(sys: System, times: bool, alpha: Complex, a: &[f64], b: &mut [f64], k: usize)
-    requires { ⌜ Ready sys (complex .count (now a)) (complex .count (now b)) × (k < sys .b .rows) ⌝ }
-    ensures { λ _. ⌜ now (b .exit) ≡ solve.solveAcross complex sys (timesIf complex times alpha) (now (a .entry)) k (now (b .entry)) ⌝ }
-{
-    let n = cols(sys.b);
     let mut l = 0;
     while l < n {
         solve_one(sys, times, alpha, a, b, k, l);
@@ -228,54 +233,37 @@ fn solve_across(sys: System, times: bool, alpha: Complex, a: &[f64], b: &mut [f6
     }
 }
 
-// Unknown after unknown, each in every line, up to the first zero pivot: how many come before it.
-fn solve_unknowns(sys: System, times: bool, alpha: Complex, a: &[f64], b: &mut [f64]) -> usize
-    requires { ⌜ Ready sys (complex .count (now a)) (complex .count (now b)) ⌝ }
-    ensures { λ r. ⌜ (r ≡ solve.firstZero complex sys (now (a .entry))) × (now (b .exit) ≡ walk r (solve.solveAcross complex sys (timesIf complex times alpha) (now (a .entry))) (now (b .entry))) ⌝ }
+// The first m unknowns, one after another, each in the first n lines.
+fn solve_unknowns(
+    sys: System,
+    times: bool,
+    alpha: Complex,
+    a: &[f64],
+    b: &mut [f64],
+    n: usize,
+    m: usize,
+)
+    requires { ⌜ Ready sys (complex .count (now a)) (complex .count (now b)) × ((n ≤ sys .b .cols) × (m ≤ sys .b .rows)) ⌝ }
+    ensures { λ _. ⌜ now (b .exit) ≡ solve.solveUnknowns complex sys (timesIf complex times alpha) (now (a .entry)) n m (now (b .entry)) ⌝ }
 {
-    let order = rows(sys.b);
     let mut k = 0;
-    while k < order {
-        if meets_zero(sys, a, k) {
-            return k;
-        }
-        solve_across(sys, times, alpha, a, b, k);
+    while k < m {
+        solve_across(sys, times, alpha, a, b, n, k);
         k += 1;
     }
-    k
 }
 
-// Line after line.
-fn solve_left(sys: System, times: bool, alpha: Complex, a: &[f64], b: &mut [f64]) -> Answer
+// The unknowns before the first zero pivot, in every line; where a left solve stops there, in the first line alone.
+fn solve_lines(sys: System, times: bool, alpha: Complex, a: &[f64], b: &mut [f64]) -> Answer
     requires { ⌜ Ready sys (complex .count (now a)) (complex .count (now b)) ⌝ }
-    ensures { λ r. ⌜ solve.SolvedLeft complex sys (timesIf complex times alpha) (now (a .entry)) (now (b .entry)) r (now (b .exit)) ⌝ }
+    ensures { λ r. ⌜ solve.Solved complex sys (timesIf complex times alpha) (now (a .entry)) (now (b .entry)) r (now (b .exit)) ⌝ }
 {
-    if 0 < cols(sys.b) {
-        if solve_first(sys, times, alpha, a, b) < rows(sys.b) {
-            Answer::Singular
-        } else {
-            solve_others(sys, times, alpha, a, b);
-            Answer::Done
-        }
-    } else {
-        Answer::Done
-    }
-}
-
-// Unknown after unknown.
-fn solve_right(sys: System, times: bool, alpha: Complex, a: &[f64], b: &mut [f64]) -> Answer
-    requires { ⌜ Ready sys (complex .count (now a)) (complex .count (now b)) ⌝ }
-    ensures { λ r. ⌜ solve.SolvedRight complex sys (timesIf complex times alpha) (now (a .entry)) (now (b .entry)) r (now (b .exit)) ⌝ }
-{
-    if 0 < cols(sys.b) {
-        if solve_unknowns(sys, times, alpha, a, b) < rows(sys.b) {
-            Answer::Singular
-        } else {
-            Answer::Done
-        }
-    } else {
-        Answer::Done
-    }
+    let side = sys.side;
+    let m = first_zero(sys, a);
+    let stopped = stops(sys, m);
+    let n = lines_solved(side, stopped, cols(sys.b));
+    solve_unknowns(sys, times, alpha, a, b, n, m);
+    solved(stopped)
 }
 
 // Element (i, j) of B times alpha.
@@ -313,7 +301,18 @@ fn scale(alpha: Complex, b: &mut [f64], vb: View)
     }
 }
 
-// Left multiplies by alpha where it solves, Right multiplies all of B first.
+// All of B times alpha on the right side, which multiplies before it solves; the left side multiplies where it solves.
+fn scale_right(side: Side, alpha: Complex, b: &mut [f64], vb: View)
+    requires { ⌜ Accepted vb (complex .count (now b)) ⌝ }
+    ensures { λ _. ⌜ now (b .exit) ≡ triangles.scaledRight complex side alpha vb (now (b .entry)) ⌝ }
+{
+    match side {
+        Side::Left => {}
+        Side::Right => scale(alpha, b, vb),
+    }
+}
+
+// The solve of a side, with alpha.
 fn sided(
     side: Side,
     uplo: UpLo,
@@ -328,17 +327,9 @@ fn sided(
     requires { ⌜ Sided side va (complex .count (now a)) vb (complex .count (now b)) ⌝ }
     ensures { λ r. ⌜ Gives complex (sidedSolve complex side uplo t diag alpha (elem complex (now (a .entry)) va) vb (now (b .entry))) r (now (b .exit)) ⌝ }
 {
-    match side {
-        Side::Left => {
-            let sys = system_of(Side::Left, uplo, t, diag, va, vb);
-            solve_left(sys, true, alpha, a, b)
-        }
-        Side::Right => {
-            scale(alpha, b, vb);
-            let sys = system_of(Side::Right, uplo, t, diag, va, vb);
-            solve_right(sys, false, alpha, a, b)
-        }
-    }
+    scale_right(side, alpha, b, vb);
+    let sys = system_of(side, uplo, t, diag, va, vb);
+    solve_lines(sys, is_left(side), alpha, a, b)
 }
 
 // What the diagonal weighs.
@@ -357,81 +348,106 @@ fn line_sum(sys: System, a: &[f64], b: &[f64], q: usize, l: usize) -> Complex
     requires { ⌜ ReadyAt sys (complex .count (now a)) (complex .count (now b)) q l ⌝ }
     ensures { λ r. ⌜ r ≡ multiply.lineSum complex sys (now (a .entry)) (now (b .entry)) q l ⌝ }
 {
-    let side = sys.side;
     let diag = sys.diag;
     let c = own_weight(diag, sys.conjugated, a, sys.a, q);
-    let own = weigh(side, c, elem_complex(b, sys.b, q, l));
+    let own = c.mul(elem_complex(b, sys.b, q, l));
     if sys.last {
         let n = rows(sys.b) - 1 - q;
         let x = Complex::ZERO.add(own);
-        add_run(side, sys.conjugated, a, sys.a, b, sys.b, q, l, q + 1, n, x)
+        add_run(sys.conjugated, a, sys.a, b, sys.b, q, l, q + 1, n, x)
     } else {
         let x = Complex::ZERO;
-        let sum = add_run(side, sys.conjugated, a, sys.a, b, sys.b, q, l, 0, q, x);
+        let sum = add_run(sys.conjugated, a, sys.a, b, sys.b, q, l, 0, q, x);
         sum.add(own)
     }
 }
 
 // The element of line l that comes after k others, multiplied.
-fn multiply_one(
-    sys: System,
-    times: bool,
-    alpha: Complex,
-    a: &[f64],
-    b: &mut [f64],
-    k: usize,
-    l: usize,
-)
+fn multiply_one(sys: System, alpha: Complex, a: &[f64], b: &mut [f64], k: usize, l: usize)
     requires { ⌜ ReadyAt sys (complex .count (now a)) (complex .count (now b)) k l ⌝ }
-    ensures { λ _. ⌜ now (b .exit) ≡ multiply.multiplyOne complex sys (now (a .entry)) (timesIf complex times alpha) k l (now (b .entry)) ⌝ }
+    ensures { λ _. ⌜ now (b .exit) ≡ multiply.multiplyOne complex sys (now (a .entry)) (complex .mul alpha) k l (now (b .entry)) ⌝ }
 {
     let q = in_order(!sys.last, rows(sys.b), k);
-    let x = times_if(times, alpha, line_sum(sys, a, b, q, l));
+    let x = alpha.mul(line_sum(sys, a, b, q, l));
     put_complex(b, place(sys.b, q, l), x);
 }
 
 // Element (i, j) of B multiplied.
-fn multiply_at(
-    sys: System,
-    times: bool,
-    alpha: Complex,
-    a: &[f64],
-    b: &mut [f64],
-    i: usize,
-    j: usize,
-)
+fn multiply_at(sys: System, alpha: Complex, a: &[f64], b: &mut [f64], i: usize, j: usize)
     requires { ⌜ Ready sys (complex .count (now a)) (complex .count (now b)) × ((i < sys .rows) × (j < sys .cols)) ⌝ }
-    ensures { λ _. ⌜ now (b .exit) ≡ multiply.multiplyOne complex sys (now (a .entry)) (timesIf complex times alpha) (multiply.turn (sys .side) i j) (multiply.line (sys .side) i j) (now (b .entry)) ⌝ }
+    ensures { λ _. ⌜ now (b .exit) ≡ multiply.multiplyOne complex sys (now (a .entry)) (complex .mul alpha) (multiply.turn (sys .side) i j) (multiply.line (sys .side) i j) (now (b .entry)) ⌝ }
 {
     let side = sys.side;
     let k = turn(side, i, j);
     let l = line(side, i, j);
-    multiply_one(sys, times, alpha, a, b, k, l);
+    multiply_one(sys, alpha, a, b, k, l);
 }
 
 // Column j of B.
-fn multiply_column(sys: System, times: bool, alpha: Complex, a: &[f64], b: &mut [f64], j: usize)
+fn multiply_column(sys: System, alpha: Complex, a: &[f64], b: &mut [f64], j: usize)
     requires { ⌜ Ready sys (complex .count (now a)) (complex .count (now b)) × (j < sys .cols) ⌝ }
-    ensures { λ _. ⌜ now (b .exit) ≡ multiply.multiplyColumn complex sys (now (a .entry)) (timesIf complex times alpha) j (sys .rows) (now (b .entry)) ⌝ }
+    ensures { λ _. ⌜ now (b .exit) ≡ multiply.multiplyColumn complex sys (now (a .entry)) (complex .mul alpha) j (sys .rows) (now (b .entry)) ⌝ }
 {
     let m = sys.rows;
     let mut i = 0;
     while i < m {
-        multiply_at(sys, times, alpha, a, b, i, j);
+        multiply_at(sys, alpha, a, b, i, j);
         i += 1;
     }
 }
 
 // All of B, in the order that reads no written element.
-fn multiply(sys: System, times: bool, alpha: Complex, a: &[f64], b: &mut [f64])
+fn multiply(sys: System, alpha: Complex, a: &[f64], b: &mut [f64])
     requires { ⌜ Ready sys (complex .count (now a)) (complex .count (now b)) ⌝ }
-    ensures { λ _. ⌜ now (b .exit) ≡ multiply.multiplyAll complex sys (now (a .entry)) (timesIf complex times alpha) (now (b .entry)) ⌝ }
+    ensures { λ _. ⌜ now (b .exit) ≡ multiply.multiplyAll complex sys (now (a .entry)) (complex .mul alpha) (now (b .entry)) ⌝ }
 {
     let n = sys.cols;
     let mut j = 0;
     while j < n {
-        multiply_column(sys, times, alpha, a, b, j);
+        multiply_column(sys, alpha, a, b, j);
         j += 1;
+    }
+}
+
+// Element q of the product with a vector.
+fn vector_sum(sys: System, a: &[f64], b: &[f64], q: usize) -> Complex
+    requires { ⌜ ReadyAt sys (complex .count (now a)) (complex .count (now b)) q 0 ⌝ }
+    ensures { λ r. ⌜ r ≡ multiply.lineSum complex sys (now (a .entry)) (now (b .entry)) q 0 ⌝ }
+{
+    let diag = sys.diag;
+    let c = own_weight(diag, sys.conjugated, a, sys.a, q);
+    let own = c.mul(elem_complex(b, sys.b, q, 0));
+    if sys.last {
+        let n = rows(sys.b) - 1 - q;
+        let x = Complex::ZERO.add(own);
+        add_run(sys.conjugated, a, sys.a, b, sys.b, q, 0, q + 1, n, x)
+    } else {
+        let x = Complex::ZERO;
+        let sum = add_run(sys.conjugated, a, sys.a, b, sys.b, q, 0, 0, q, x);
+        sum.add(own)
+    }
+}
+
+// The element of a vector that comes after k others, multiplied.
+fn multiply_next(sys: System, a: &[f64], b: &mut [f64], k: usize)
+    requires { ⌜ ReadyAt sys (complex .count (now a)) (complex .count (now b)) k 0 ⌝ }
+    ensures { λ _. ⌜ now (b .exit) ≡ multiply.multiplyOne complex sys (now (a .entry)) (λ x. x) k 0 (now (b .entry)) ⌝ }
+{
+    let q = in_order(!sys.last, rows(sys.b), k);
+    let x = vector_sum(sys, a, b, q);
+    put_complex(b, place(sys.b, q, 0), x);
+}
+
+// All of a vector, in that order.
+fn multiply_vector(sys: System, a: &[f64], b: &mut [f64])
+    requires { ⌜ Ready sys (complex .count (now a)) (complex .count (now b)) × (sys .b .cols ≡ 1) ⌝ }
+    ensures { λ _. ⌜ now (b .exit) ≡ walk (sys .b .rows) (λ k. multiply.multiplyOne complex sys (now (a .entry)) (λ x. x) k 0) (now (b .entry)) ⌝ }
+{
+    let m = rows(sys.b);
+    let mut k = 0;
+    while k < m {
+        multiply_next(sys, a, b, k);
+        k += 1;
     }
 }
 
@@ -447,11 +463,12 @@ pub fn trmv(
 ) -> Answer
     ensures { λ r. ⌜ Gives complex (Trmv.trmv complex uplo trans diag (lent complex (now (a .entry)) va) (lent complex (now (x .entry)) vx)) r (now (x .exit)) ⌝ }
 {
-    let answer = check_trmv(va, a.len() / 2, vx, x.len() / 2);
+    let quick = quick_trmv(va, a.len() / 2, vx, x.len() / 2);
+    let answer = check_trmv(quick, va, a.len() / 2, vx, x.len() / 2);
     if passed(answer) {
         let v = column(vx);
         let sys = system_of(Side::Left, uplo, trans, diag, va, v);
-        multiply(sys, false, Complex::ONE, a, x);
+        multiply_vector(sys, a, x);
     }
     answer
 }
@@ -470,10 +487,11 @@ pub fn trmm(
 ) -> Answer
     ensures { λ r. ⌜ Gives complex (Trmm.trmm complex side uplo trans diag alpha (lent complex (now (a .entry)) va) (lent complex (now (b .entry)) vb)) r (now (b .exit)) ⌝ }
 {
-    let answer = check_trmm(side, va, a.len() / 2, vb, b.len() / 2);
+    let quick = quick_trmm(side, va, a.len() / 2, vb, b.len() / 2);
+    let answer = check_trmm(quick, side, va, a.len() / 2, vb, b.len() / 2);
     if passed(answer) {
         let sys = system_of(side, uplo, trans, diag, va, vb);
-        multiply(sys, true, alpha, a, b);
+        multiply(sys, alpha, a, b);
     }
     answer
 }
@@ -490,11 +508,12 @@ pub fn trsv(
 ) -> Answer
     ensures { λ r. ⌜ Gives complex (Trsv.trsv complex uplo trans diag (lent complex (now (a .entry)) va) (lent complex (now (x .entry)) vx)) r (now (x .exit)) ⌝ }
 {
-    let answer = check_trsv(va, a.len() / 2, vx, x.len() / 2);
+    let quick = quick_trmv(va, a.len() / 2, vx, x.len() / 2);
+    let answer = check_trsv(quick, va, a.len() / 2, vx, x.len() / 2);
     if passed(answer) {
         let v = column(vx);
         let sys = system_of(Side::Left, uplo, trans, diag, va, v);
-        return solve_left(sys, false, Complex::ONE, a, x);
+        return solve_vector(sys, a, x);
     }
     answer
 }
@@ -513,7 +532,8 @@ pub fn trsm(
 ) -> Answer
     ensures { λ r. ⌜ Gives complex (Trsm.trsm complex side uplo trans diag alpha (lent complex (now (a .entry)) va) (lent complex (now (b .entry)) vb)) r (now (b .exit)) ⌝ }
 {
-    let answer = check_trsm(side, va, a.len() / 2, vb, b.len() / 2);
+    let quick = quick_trmm(side, va, a.len() / 2, vb, b.len() / 2);
+    let answer = check_trsm(quick, side, va, a.len() / 2, vb, b.len() / 2);
     if passed(answer) {
         return sided(side, uplo, trans, diag, alpha, a, va, b, vb);
     }

@@ -1,7 +1,7 @@
 // The triangular products and solves of f32.
 
 ghost use mathlib.Core.Path.{_≡_};
-ghost use Prim.Native.Nat.{_+_, _-_, _<_};
+ghost use Prim.Native.Nat.{_≤_, _<_};
 ghost use Rattle.number.specs.Kind.{real32};
 ghost use Rattle.view.specs.Steps.{Accepted};
 ghost use Rattle.slab.specs.Elem.{elem, lent, Shows};
@@ -20,11 +20,21 @@ ghost use Rattle.order.specs.Triangles.{timesIf};
 ghost use Rattle.order.specs.Solve as solve;
 ghost use Rattle.order.specs.Multiply as multiply;
 ghost use Rattle.order.specs.Ready.{Pivots, Ready, ReadyAt, Sided};
+use judge::check_trmm;
+use judge::check_trmv;
+use judge::check_trsm;
+use judge::check_trsv;
+use judge::quick_trmm;
+use judge::quick_trmv;
 use number::Real32;
 use order::System;
 use order::in_order;
+use order::is_left;
 use order::least_solved;
 use order::line;
+use order::lines_solved;
+use order::solved;
+use order::stops;
 use order::system_of;
 use order::turn;
 use slab::elem32;
@@ -35,10 +45,6 @@ use view::Side;
 use view::Trans;
 use view::UpLo;
 use view::View;
-use view::check_trmm;
-use view::check_trmv;
-use view::check_trsm;
-use view::check_trsv;
 use view::cols;
 use view::column;
 use view::passed;
@@ -53,19 +59,8 @@ fn at(conjugated: bool, s: &[f32], v: View, i: usize, j: usize) -> Real32
     elem32(s, v, i, j)
 }
 
-// A coefficient times an unknown, in the side's order of operands.
-fn weigh(side: Side, c: Real32, x: Real32) -> Real32
-    ensures { λ r. ⌜ r .0 ≡ triangles.weigh real32 side (c .0) (x .0) ⌝ }
-{
-    match side {
-        Side::Left => c.mul(x),
-        Side::Right => x.mul(c),
-    }
-}
-
 // x less n terms of row q by column l, from `from` on.
 fn reduce(
-    side: Side,
     conjugated: bool,
     a: &[f32],
     va: View,
@@ -78,14 +73,14 @@ fn reduce(
     x: f32,
 ) -> f32
     requires { ⌜ Spans va (real32 .count (now a)) vb (real32 .count (now b)) q l from n ⌝ }
-    ensures { λ r. ⌜ r ≡ less real32 x (λ p. triangles.weigh real32 side (plain real32 conjugated (now (a .entry)) va q p) (elem real32 (now (b .entry)) vb p l)) from n ⌝ }
+    ensures { λ r. ⌜ r ≡ less real32 x (λ p. real32 .mul (plain real32 conjugated (now (a .entry)) va q p) (elem real32 (now (b .entry)) vb p l)) from n ⌝ }
 {
     let mut rest = x;
     let mut i = 0;
     while i < n {
         let p = from + i;
         rest = Real32(rest)
-            .sub(weigh(side, at(conjugated, a, va, q, p), elem32(b, vb, p, l)))
+            .sub(at(conjugated, a, va, q, p).mul(elem32(b, vb, p, l)))
             .0;
         i += 1;
     }
@@ -94,7 +89,6 @@ fn reduce(
 
 // x and n such terms more.
 fn add_run(
-    side: Side,
     conjugated: bool,
     a: &[f32],
     va: View,
@@ -107,14 +101,14 @@ fn add_run(
     x: f32,
 ) -> f32
     requires { ⌜ Spans va (real32 .count (now a)) vb (real32 .count (now b)) q l from n ⌝ }
-    ensures { λ r. ⌜ r ≡ more real32 x (λ p. triangles.weigh real32 side (plain real32 conjugated (now (a .entry)) va q p) (elem real32 (now (b .entry)) vb p l)) from n ⌝ }
+    ensures { λ r. ⌜ r ≡ more real32 x (λ p. real32 .mul (plain real32 conjugated (now (a .entry)) va q p) (elem real32 (now (b .entry)) vb p l)) from n ⌝ }
 {
     let mut sum = x;
     let mut i = 0;
     while i < n {
         let p = from + i;
         sum = Real32(sum)
-            .add(weigh(side, at(conjugated, a, va, q, p), elem32(b, vb, p, l)))
+            .add(at(conjugated, a, va, q, p).mul(elem32(b, vb, p, l)))
             .0;
         i += 1;
     }
@@ -154,15 +148,29 @@ fn solve_one(sys: System, times: bool, alpha: Real32, a: &[f32], b: &mut [f32], 
     requires { ⌜ ReadyAt sys (real32 .count (now a)) (real32 .count (now b)) k l ⌝ }
     ensures { λ _. ⌜ now (b .exit) ≡ solve.solveOne real32 sys (timesIf real32 times (alpha .0)) (now (a .entry)) k l (now (b .entry)) ⌝ }
 {
-    let side = sys.side;
     let diag = sys.diag;
     let m = rows(sys.b);
     let q = in_order(sys.last, m, k);
     let from = least_solved(sys.last, m, k);
     let x = times_if(times, alpha, elem32(b, sys.b, q, l).0);
-    let rest = reduce(side, sys.conjugated, a, sys.a, b, sys.b, q, l, from, k, x);
+    let rest = reduce(sys.conjugated, a, sys.a, b, sys.b, q, l, from, k, x);
     let y = by_pivot(diag, sys.conjugated, a, sys.a, q, rest);
     put32(b, place(sys.b, q, l), Real32(y));
+}
+
+// The unknown of a vector that comes after k others, solved.
+fn solve_next(sys: System, a: &[f32], b: &mut [f32], k: usize)
+    requires { ⌜ ReadyAt sys (real32 .count (now a)) (real32 .count (now b)) k 0 ⌝ }
+    ensures { λ _. ⌜ now (b .exit) ≡ solve.solveOne real32 sys (λ x. x) (now (a .entry)) k 0 (now (b .entry)) ⌝ }
+{
+    let diag = sys.diag;
+    let m = rows(sys.b);
+    let q = in_order(sys.last, m, k);
+    let from = least_solved(sys.last, m, k);
+    let x = elem32(b, sys.b, q, 0).0;
+    let rest = reduce(sys.conjugated, a, sys.a, b, sys.b, q, 0, from, k, x);
+    let y = by_pivot(diag, sys.conjugated, a, sys.a, q, rest);
+    put32(b, place(sys.b, q, 0), Real32(y));
 }
 
 // Whether the pivot of the unknown that comes after k others is zero.
@@ -175,10 +183,27 @@ fn meets_zero(sys: System, a: &[f32], k: usize) -> bool
     zero_pivot(diag, a, sys.a, q)
 }
 
-// The first line's unknowns, up to the first zero pivot: how many come before it.
-fn solve_first(sys: System, times: bool, alpha: Real32, a: &[f32], b: &mut [f32]) -> usize
-    requires { ⌜ Ready sys (real32 .count (now a)) (real32 .count (now b)) × (0 < sys .b .cols) ⌝ }
-    ensures { λ r. ⌜ (r ≡ solve.firstZero real32 sys (now (a .entry))) × (now (b .exit) ≡ solve.solveLine real32 sys (timesIf real32 times (alpha .0)) (now (a .entry)) 0 r (now (b .entry))) ⌝ }
+// The unknowns of a vector, up to the first zero pivot.
+fn solve_vector(sys: System, a: &[f32], b: &mut [f32]) -> Answer
+    requires { ⌜ Ready sys (real32 .count (now a)) (real32 .count (now b)) × (sys .b .cols ≡ 1) ⌝ }
+    ensures { λ r. ⌜ solve.Solved real32 sys (λ x. x) (now (a .entry)) (now (b .entry)) r (now (b .exit)) ⌝ }
+{
+    let n = rows(sys.b);
+    let mut k = 0;
+    while k < n {
+        if meets_zero(sys, a, k) {
+            return Answer::Singular;
+        }
+        solve_next(sys, a, b, k);
+        k += 1;
+    }
+    Answer::Done
+}
+
+// How many unknowns come before the first zero pivot.
+fn first_zero(sys: System, a: &[f32]) -> usize
+    requires { ⌜ Pivots sys (real32 .count (now a)) ⌝ }
+    ensures { λ r. ⌜ r ≡ solve.firstZero real32 sys (now (a .entry)) ⌝ }
 {
     let m = rows(sys.b);
     let mut k = 0;
@@ -186,44 +211,24 @@ fn solve_first(sys: System, times: bool, alpha: Real32, a: &[f32], b: &mut [f32]
         if meets_zero(sys, a, k) {
             return k;
         }
-        solve_one(sys, times, alpha, a, b, k, 0);
         k += 1;
     }
     k
 }
 
-// Every unknown of line l.
-fn solve_line(sys: System, times: bool, alpha: Real32, a: &[f32], b: &mut [f32], l: usize)
-    requires { ⌜ Ready sys (real32 .count (now a)) (real32 .count (now b)) × (l < sys .b .cols) ⌝ }
-    ensures { λ _. ⌜ now (b .exit) ≡ solve.solveLine real32 sys (timesIf real32 times (alpha .0)) (now (a .entry)) l (sys .b .rows) (now (b .entry)) ⌝ }
+// The unknown that comes after k others, in the first n lines.
+fn solve_across(
+    sys: System,
+    times: bool,
+    alpha: Real32,
+    a: &[f32],
+    b: &mut [f32],
+    n: usize,
+    k: usize,
+)
+    requires { ⌜ Ready sys (real32 .count (now a)) (real32 .count (now b)) × ((n ≤ sys .b .cols) × (k < sys .b .rows)) ⌝ }
+    ensures { λ _. ⌜ now (b .exit) ≡ solve.solveAcross real32 sys (timesIf real32 times (alpha .0)) (now (a .entry)) n k (now (b .entry)) ⌝ }
 {
-    let n = rows(sys.b);
-    let mut k = 0;
-    while k < n {
-        solve_one(sys, times, alpha, a, b, k, l);
-        k += 1;
-    }
-}
-
-// The lines after the first.
-fn solve_others(sys: System, times: bool, alpha: Real32, a: &[f32], b: &mut [f32])
-    requires { ⌜ Ready sys (real32 .count (now a)) (real32 .count (now b)) × (0 < sys .b .cols) ⌝ }
-    ensures { λ _. ⌜ now (b .exit) ≡ walk (sys .b .cols - 1) (λ l. solve.solveLine real32 sys (timesIf real32 times (alpha .0)) (now (a .entry)) (l + 1) (sys .b .rows)) (now (b .entry)) ⌝ }
-{
-    let n = cols(sys.b) - 1;
-    let mut l = 0;
-    while l < n {
-        solve_line(sys, times, alpha, a, b, l + 1);
-        l += 1;
-    }
-}
-
-// The unknown that comes after k others, in every line.
-fn solve_across(sys: System, times: bool, alpha: Real32, a: &[f32], b: &mut [f32], k: usize)
-    requires { ⌜ Ready sys (real32 .count (now a)) (real32 .count (now b)) × (k < sys .b .rows) ⌝ }
-    ensures { λ _. ⌜ now (b .exit) ≡ solve.solveAcross real32 sys (timesIf real32 times (alpha .0)) (now (a .entry)) k (now (b .entry)) ⌝ }
-{
-    let n = cols(sys.b);
     let mut l = 0;
     while l < n {
         solve_one(sys, times, alpha, a, b, k, l);
@@ -231,54 +236,37 @@ fn solve_across(sys: System, times: bool, alpha: Real32, a: &[f32], b: &mut [f32
     }
 }
 
-// Unknown after unknown, each in every line, up to the first zero pivot: how many come before it.
-fn solve_unknowns(sys: System, times: bool, alpha: Real32, a: &[f32], b: &mut [f32]) -> usize
-    requires { ⌜ Ready sys (real32 .count (now a)) (real32 .count (now b)) ⌝ }
-    ensures { λ r. ⌜ (r ≡ solve.firstZero real32 sys (now (a .entry))) × (now (b .exit) ≡ walk r (solve.solveAcross real32 sys (timesIf real32 times (alpha .0)) (now (a .entry))) (now (b .entry))) ⌝ }
+// The first m unknowns, one after another, each in the first n lines.
+fn solve_unknowns(
+    sys: System,
+    times: bool,
+    alpha: Real32,
+    a: &[f32],
+    b: &mut [f32],
+    n: usize,
+    m: usize,
+)
+    requires { ⌜ Ready sys (real32 .count (now a)) (real32 .count (now b)) × ((n ≤ sys .b .cols) × (m ≤ sys .b .rows)) ⌝ }
+    ensures { λ _. ⌜ now (b .exit) ≡ solve.solveUnknowns real32 sys (timesIf real32 times (alpha .0)) (now (a .entry)) n m (now (b .entry)) ⌝ }
 {
-    let order = rows(sys.b);
     let mut k = 0;
-    while k < order {
-        if meets_zero(sys, a, k) {
-            return k;
-        }
-        solve_across(sys, times, alpha, a, b, k);
+    while k < m {
+        solve_across(sys, times, alpha, a, b, n, k);
         k += 1;
     }
-    k
 }
 
-// Line after line.
-fn solve_left(sys: System, times: bool, alpha: Real32, a: &[f32], b: &mut [f32]) -> Answer
+// The unknowns before the first zero pivot, in every line; where a left solve stops there, in the first line alone.
+fn solve_lines(sys: System, times: bool, alpha: Real32, a: &[f32], b: &mut [f32]) -> Answer
     requires { ⌜ Ready sys (real32 .count (now a)) (real32 .count (now b)) ⌝ }
-    ensures { λ r. ⌜ solve.SolvedLeft real32 sys (timesIf real32 times (alpha .0)) (now (a .entry)) (now (b .entry)) r (now (b .exit)) ⌝ }
+    ensures { λ r. ⌜ solve.Solved real32 sys (timesIf real32 times (alpha .0)) (now (a .entry)) (now (b .entry)) r (now (b .exit)) ⌝ }
 {
-    if 0 < cols(sys.b) {
-        if solve_first(sys, times, alpha, a, b) < rows(sys.b) {
-            Answer::Singular
-        } else {
-            solve_others(sys, times, alpha, a, b);
-            Answer::Done
-        }
-    } else {
-        Answer::Done
-    }
-}
-
-// Unknown after unknown.
-fn solve_right(sys: System, times: bool, alpha: Real32, a: &[f32], b: &mut [f32]) -> Answer
-    requires { ⌜ Ready sys (real32 .count (now a)) (real32 .count (now b)) ⌝ }
-    ensures { λ r. ⌜ solve.SolvedRight real32 sys (timesIf real32 times (alpha .0)) (now (a .entry)) (now (b .entry)) r (now (b .exit)) ⌝ }
-{
-    if 0 < cols(sys.b) {
-        if solve_unknowns(sys, times, alpha, a, b) < rows(sys.b) {
-            Answer::Singular
-        } else {
-            Answer::Done
-        }
-    } else {
-        Answer::Done
-    }
+    let side = sys.side;
+    let m = first_zero(sys, a);
+    let stopped = stops(sys, m);
+    let n = lines_solved(side, stopped, cols(sys.b));
+    solve_unknowns(sys, times, alpha, a, b, n, m);
+    solved(stopped)
 }
 
 // Element (i, j) of B times alpha.
@@ -316,7 +304,18 @@ fn scale(alpha: Real32, b: &mut [f32], vb: View)
     }
 }
 
-// Left multiplies by alpha where it solves, Right multiplies all of B first.
+// All of B times alpha on the right side, which multiplies before it solves; the left side multiplies where it solves.
+fn scale_right(side: Side, alpha: Real32, b: &mut [f32], vb: View)
+    requires { ⌜ Accepted vb (real32 .count (now b)) ⌝ }
+    ensures { λ _. ⌜ now (b .exit) ≡ triangles.scaledRight real32 side (alpha .0) vb (now (b .entry)) ⌝ }
+{
+    match side {
+        Side::Left => {}
+        Side::Right => scale(alpha, b, vb),
+    }
+}
+
+// The solve of a side, with alpha.
 fn sided(
     side: Side,
     uplo: UpLo,
@@ -331,17 +330,9 @@ fn sided(
     requires { ⌜ Sided side va (real32 .count (now a)) vb (real32 .count (now b)) ⌝ }
     ensures { λ r. ⌜ Gives real32 (sidedSolve real32 side uplo t diag (alpha .0) (elem real32 (now (a .entry)) va) vb (now (b .entry))) r (now (b .exit)) ⌝ }
 {
-    match side {
-        Side::Left => {
-            let sys = system_of(Side::Left, uplo, t, diag, va, vb);
-            solve_left(sys, true, alpha, a, b)
-        }
-        Side::Right => {
-            scale(alpha, b, vb);
-            let sys = system_of(Side::Right, uplo, t, diag, va, vb);
-            solve_right(sys, false, alpha, a, b)
-        }
-    }
+    scale_right(side, alpha, b, vb);
+    let sys = system_of(side, uplo, t, diag, va, vb);
+    solve_lines(sys, is_left(side), alpha, a, b)
 }
 
 // What the diagonal weighs.
@@ -360,81 +351,106 @@ fn line_sum(sys: System, a: &[f32], b: &[f32], q: usize, l: usize) -> f32
     requires { ⌜ ReadyAt sys (real32 .count (now a)) (real32 .count (now b)) q l ⌝ }
     ensures { λ r. ⌜ r ≡ multiply.lineSum real32 sys (now (a .entry)) (now (b .entry)) q l ⌝ }
 {
-    let side = sys.side;
     let diag = sys.diag;
     let c = own_weight(diag, sys.conjugated, a, sys.a, q);
-    let own = weigh(side, c, elem32(b, sys.b, q, l));
+    let own = c.mul(elem32(b, sys.b, q, l));
     if sys.last {
         let n = rows(sys.b) - 1 - q;
         let x = Real32::ZERO.add(own).0;
-        add_run(side, sys.conjugated, a, sys.a, b, sys.b, q, l, q + 1, n, x)
+        add_run(sys.conjugated, a, sys.a, b, sys.b, q, l, q + 1, n, x)
     } else {
         let x = Real32::ZERO.0;
-        let sum = add_run(side, sys.conjugated, a, sys.a, b, sys.b, q, l, 0, q, x);
+        let sum = add_run(sys.conjugated, a, sys.a, b, sys.b, q, l, 0, q, x);
         Real32(sum).add(own).0
     }
 }
 
 // The element of line l that comes after k others, multiplied.
-fn multiply_one(
-    sys: System,
-    times: bool,
-    alpha: Real32,
-    a: &[f32],
-    b: &mut [f32],
-    k: usize,
-    l: usize,
-)
+fn multiply_one(sys: System, alpha: Real32, a: &[f32], b: &mut [f32], k: usize, l: usize)
     requires { ⌜ ReadyAt sys (real32 .count (now a)) (real32 .count (now b)) k l ⌝ }
-    ensures { λ _. ⌜ now (b .exit) ≡ multiply.multiplyOne real32 sys (now (a .entry)) (timesIf real32 times (alpha .0)) k l (now (b .entry)) ⌝ }
+    ensures { λ _. ⌜ now (b .exit) ≡ multiply.multiplyOne real32 sys (now (a .entry)) (real32 .mul (alpha .0)) k l (now (b .entry)) ⌝ }
 {
     let q = in_order(!sys.last, rows(sys.b), k);
-    let x = times_if(times, alpha, line_sum(sys, a, b, q, l));
-    put32(b, place(sys.b, q, l), Real32(x));
+    let x = alpha.mul(Real32(line_sum(sys, a, b, q, l)));
+    put32(b, place(sys.b, q, l), x);
 }
 
 // Element (i, j) of B multiplied.
-fn multiply_at(
-    sys: System,
-    times: bool,
-    alpha: Real32,
-    a: &[f32],
-    b: &mut [f32],
-    i: usize,
-    j: usize,
-)
+fn multiply_at(sys: System, alpha: Real32, a: &[f32], b: &mut [f32], i: usize, j: usize)
     requires { ⌜ Ready sys (real32 .count (now a)) (real32 .count (now b)) × ((i < sys .rows) × (j < sys .cols)) ⌝ }
-    ensures { λ _. ⌜ now (b .exit) ≡ multiply.multiplyOne real32 sys (now (a .entry)) (timesIf real32 times (alpha .0)) (multiply.turn (sys .side) i j) (multiply.line (sys .side) i j) (now (b .entry)) ⌝ }
+    ensures { λ _. ⌜ now (b .exit) ≡ multiply.multiplyOne real32 sys (now (a .entry)) (real32 .mul (alpha .0)) (multiply.turn (sys .side) i j) (multiply.line (sys .side) i j) (now (b .entry)) ⌝ }
 {
     let side = sys.side;
     let k = turn(side, i, j);
     let l = line(side, i, j);
-    multiply_one(sys, times, alpha, a, b, k, l);
+    multiply_one(sys, alpha, a, b, k, l);
 }
 
 // Column j of B.
-fn multiply_column(sys: System, times: bool, alpha: Real32, a: &[f32], b: &mut [f32], j: usize)
+fn multiply_column(sys: System, alpha: Real32, a: &[f32], b: &mut [f32], j: usize)
     requires { ⌜ Ready sys (real32 .count (now a)) (real32 .count (now b)) × (j < sys .cols) ⌝ }
-    ensures { λ _. ⌜ now (b .exit) ≡ multiply.multiplyColumn real32 sys (now (a .entry)) (timesIf real32 times (alpha .0)) j (sys .rows) (now (b .entry)) ⌝ }
+    ensures { λ _. ⌜ now (b .exit) ≡ multiply.multiplyColumn real32 sys (now (a .entry)) (real32 .mul (alpha .0)) j (sys .rows) (now (b .entry)) ⌝ }
 {
     let m = sys.rows;
     let mut i = 0;
     while i < m {
-        multiply_at(sys, times, alpha, a, b, i, j);
+        multiply_at(sys, alpha, a, b, i, j);
         i += 1;
     }
 }
 
 // All of B, in the order that reads no written element.
-fn multiply(sys: System, times: bool, alpha: Real32, a: &[f32], b: &mut [f32])
+fn multiply(sys: System, alpha: Real32, a: &[f32], b: &mut [f32])
     requires { ⌜ Ready sys (real32 .count (now a)) (real32 .count (now b)) ⌝ }
-    ensures { λ _. ⌜ now (b .exit) ≡ multiply.multiplyAll real32 sys (now (a .entry)) (timesIf real32 times (alpha .0)) (now (b .entry)) ⌝ }
+    ensures { λ _. ⌜ now (b .exit) ≡ multiply.multiplyAll real32 sys (now (a .entry)) (real32 .mul (alpha .0)) (now (b .entry)) ⌝ }
 {
     let n = sys.cols;
     let mut j = 0;
     while j < n {
-        multiply_column(sys, times, alpha, a, b, j);
+        multiply_column(sys, alpha, a, b, j);
         j += 1;
+    }
+}
+
+// Element q of the product with a vector.
+fn vector_sum(sys: System, a: &[f32], b: &[f32], q: usize) -> f32
+    requires { ⌜ ReadyAt sys (real32 .count (now a)) (real32 .count (now b)) q 0 ⌝ }
+    ensures { λ r. ⌜ r ≡ multiply.lineSum real32 sys (now (a .entry)) (now (b .entry)) q 0 ⌝ }
+{
+    let diag = sys.diag;
+    let c = own_weight(diag, sys.conjugated, a, sys.a, q);
+    let own = c.mul(elem32(b, sys.b, q, 0));
+    if sys.last {
+        let n = rows(sys.b) - 1 - q;
+        let x = Real32::ZERO.add(own).0;
+        add_run(sys.conjugated, a, sys.a, b, sys.b, q, 0, q + 1, n, x)
+    } else {
+        let x = Real32::ZERO.0;
+        let sum = add_run(sys.conjugated, a, sys.a, b, sys.b, q, 0, 0, q, x);
+        Real32(sum).add(own).0
+    }
+}
+
+// The element of a vector that comes after k others, multiplied.
+fn multiply_next(sys: System, a: &[f32], b: &mut [f32], k: usize)
+    requires { ⌜ ReadyAt sys (real32 .count (now a)) (real32 .count (now b)) k 0 ⌝ }
+    ensures { λ _. ⌜ now (b .exit) ≡ multiply.multiplyOne real32 sys (now (a .entry)) (λ x. x) k 0 (now (b .entry)) ⌝ }
+{
+    let q = in_order(!sys.last, rows(sys.b), k);
+    let x = vector_sum(sys, a, b, q);
+    put32(b, place(sys.b, q, 0), Real32(x));
+}
+
+// All of a vector, in that order.
+fn multiply_vector(sys: System, a: &[f32], b: &mut [f32])
+    requires { ⌜ Ready sys (real32 .count (now a)) (real32 .count (now b)) × (sys .b .cols ≡ 1) ⌝ }
+    ensures { λ _. ⌜ now (b .exit) ≡ walk (sys .b .rows) (λ k. multiply.multiplyOne real32 sys (now (a .entry)) (λ x. x) k 0) (now (b .entry)) ⌝ }
+{
+    let m = rows(sys.b);
+    let mut k = 0;
+    while k < m {
+        multiply_next(sys, a, b, k);
+        k += 1;
     }
 }
 
@@ -450,11 +466,12 @@ pub fn trmv(
 ) -> Answer
     ensures { λ r. ⌜ Gives real32 (Trmv.trmv real32 uplo trans diag (lent real32 (now (a .entry)) va) (lent real32 (now (x .entry)) vx)) r (now (x .exit)) ⌝ }
 {
-    let answer = check_trmv(va, a.len(), vx, x.len());
+    let quick = quick_trmv(va, a.len(), vx, x.len());
+    let answer = check_trmv(quick, va, a.len(), vx, x.len());
     if passed(answer) {
         let v = column(vx);
         let sys = system_of(Side::Left, uplo, trans, diag, va, v);
-        multiply(sys, false, Real32::ONE, a, x);
+        multiply_vector(sys, a, x);
     }
     answer
 }
@@ -473,10 +490,11 @@ pub fn trmm(
 ) -> Answer
     ensures { λ r. ⌜ Gives real32 (Trmm.trmm real32 side uplo trans diag (alpha .0) (lent real32 (now (a .entry)) va) (lent real32 (now (b .entry)) vb)) r (now (b .exit)) ⌝ }
 {
-    let answer = check_trmm(side, va, a.len(), vb, b.len());
+    let quick = quick_trmm(side, va, a.len(), vb, b.len());
+    let answer = check_trmm(quick, side, va, a.len(), vb, b.len());
     if passed(answer) {
         let sys = system_of(side, uplo, trans, diag, va, vb);
-        multiply(sys, true, alpha, a, b);
+        multiply(sys, alpha, a, b);
     }
     answer
 }
@@ -493,11 +511,12 @@ pub fn trsv(
 ) -> Answer
     ensures { λ r. ⌜ Gives real32 (Trsv.trsv real32 uplo trans diag (lent real32 (now (a .entry)) va) (lent real32 (now (x .entry)) vx)) r (now (x .exit)) ⌝ }
 {
-    let answer = check_trsv(va, a.len(), vx, x.len());
+    let quick = quick_trmv(va, a.len(), vx, x.len());
+    let answer = check_trsv(quick, va, a.len(), vx, x.len());
     if passed(answer) {
         let v = column(vx);
         let sys = system_of(Side::Left, uplo, trans, diag, va, v);
-        return solve_left(sys, false, Real32::ONE, a, x);
+        return solve_vector(sys, a, x);
     }
     answer
 }
@@ -516,7 +535,8 @@ pub fn trsm(
 ) -> Answer
     ensures { λ r. ⌜ Gives real32 (Trsm.trsm real32 side uplo trans diag (alpha .0) (lent real32 (now (a .entry)) va) (lent real32 (now (b .entry)) vb)) r (now (b .exit)) ⌝ }
 {
-    let answer = check_trsm(side, va, a.len(), vb, b.len());
+    let quick = quick_trmm(side, va, a.len(), vb, b.len());
+    let answer = check_trsm(quick, side, va, a.len(), vb, b.len());
     if passed(answer) {
         return sided(side, uplo, trans, diag, alpha, a, va, b, vb);
     }

@@ -1,5 +1,4 @@
 -- What the steps of the checks work out, and what `place` asks of its caller.
-use mathlib.Core.Path.{_≡_}
 use mathlib.Core.Bool.{Bool, _&&_}
 use Prim.Native.Nat.{ℕ, suc, _+_, _*_, _^_, _≤_, _<_}
 use lib.Dec.{ltb, eqb}
@@ -24,13 +23,6 @@ meets rows x cols y = any rows (λ k. any cols (λ d. ltb 0 (k + d) && eqb (k * 
 -- a view by its parts
 abbrev pub viewOf : ℕ → ℕ → ℕ → ℤ → ℤ → View
 viewOf start rows cols rs cs = record { start = start; rows = rows; cols = cols; rs = rs; cs = cs }
-
--- n elements, at least one and within the limit, by a stride that is short and not negative
-pub record Run (n : ℕ) (z : ℤ) : Type 0 where
-  pub some : 0 < n
-  pub few : n ≤ limit
-  pub forward : down z ≡ 0
-  pub short : up z < 2 ^ 30
 
 -- a view that a passed check leaves: its sizes are within the limit, and it fits its slab
 pub record Accepted (v : View) (len : ℕ) : Type 0 where

@@ -1,4 +1,4 @@
-// Views of a slab, the flags of the routines, and the refusals that look at views alone.
+// Views of a slab, the flags of the routines, and what a call answers.
 ghost use mathlib.Core.Path.{_≡_};
 ghost use mathlib.Core.Bool.{true};
 ghost use Prim.Native.Nat.{_<_, _^_};
@@ -8,36 +8,10 @@ ghost use mir.Val.{SFits};
 ghost use Rattle.view.specs.Place.{index, transposedOf, opViewOf, isConj};
 ghost use Rattle.view.specs.Refusals.{isVector, vecLength};
 ghost use Rattle.view.specs.Vector.{vecCoord, columnOf};
-ghost use Rattle.view.specs.Triangle.{inTriangle};
+ghost use Rattle.view.specs.Triangle.{firstCol, endCol};
 ghost use Rattle.view.specs.Judge.{answerNumber, isDone};
+ghost use Rattle.view.specs.Checks.{opRows, opCols};
 ghost use Rattle.view.specs.Steps.{Shown};
-
-mod bounds;
-mod checks;
-mod overlap;
-mod plain;
-mod shapes;
-
-pub use checks::check_gemm;
-pub use checks::check_gemv;
-pub use checks::check_hemm;
-pub use checks::check_hemv;
-pub use checks::check_her;
-pub use checks::check_her2;
-pub use checks::check_her2k;
-pub use checks::check_herk;
-pub use checks::check_read;
-pub use checks::check_symm;
-pub use checks::check_syr2k;
-pub use checks::check_syrk;
-pub use checks::check_trmm;
-pub use checks::check_trmv;
-pub use checks::check_trsm;
-pub use checks::check_trsv;
-pub use checks::refuse2;
-pub use checks::refuse3;
-pub use shapes::op_cols;
-pub use shapes::op_rows;
 
 // Element (r, c) is at start + r * rs + c * cs, counted in elements of the slab.
 pub struct View {
@@ -169,6 +143,28 @@ pub fn op_view(t: Trans, v: View) -> View
     }
 }
 
+// The rows of op(A).
+pub fn op_rows(t: Trans, a: View) -> usize
+    ensures { λ r. ⌜ r ≡ opRows t a ⌝ }
+{
+    match t {
+        Trans::NoTrans => a.rows,
+        Trans::Trans => a.cols,
+        Trans::ConjTrans => a.cols,
+    }
+}
+
+// The columns of op(A).
+pub fn op_cols(t: Trans, a: View) -> usize
+    ensures { λ r. ⌜ r ≡ opCols t a ⌝ }
+{
+    match t {
+        Trans::NoTrans => a.cols,
+        Trans::Trans => a.rows,
+        Trans::ConjTrans => a.rows,
+    }
+}
+
 // Whether op conjugates.
 pub fn conjugates(t: Trans) -> bool
     ensures { λ r. ⌜ r ≡ isConj t ⌝ }
@@ -224,12 +220,23 @@ pub fn column(v: View) -> View
     }
 }
 
-// Whether (i, j) is in the named triangle, the diagonal included.
-pub fn in_triangle(uplo: UpLo, i: usize, j: usize) -> bool
-    ensures { λ r. ⌜ r ≡ inTriangle uplo i j ⌝ }
+// The first column of row i in the named triangle.
+pub fn first_col(uplo: UpLo, i: usize) -> usize
+    ensures { λ r. ⌜ r ≡ firstCol uplo i ⌝ }
 {
     match uplo {
-        UpLo::Upper => i <= j,
-        UpLo::Lower => j <= i,
+        UpLo::Upper => i,
+        UpLo::Lower => 0,
+    }
+}
+
+// The column after the last one, with n columns.
+pub fn end_col(uplo: UpLo, i: usize, n: usize) -> usize
+    requires { ⌜ i < n ⌝ }
+    ensures { λ r. ⌜ r ≡ endCol uplo i n ⌝ }
+{
+    match uplo {
+        UpLo::Upper => n,
+        UpLo::Lower => i + 1,
     }
 }

@@ -3,12 +3,15 @@ use borrow.Author.Needs.{needs}
 use Rattle.number.specs.Kind.{complex}
 use Rattle.number.specs.Scaling.{scaleByComplex}
 use Rattle.number.proofs.ScalingLaws.{scale-complex}
-use Rattle.product_plan.proofs.Kernels.{gemv-refused, gemv-vectors, gemv-runs, gemv-done}
+use Rattle.product_plan.proofs.Kernels.{gemv-refused, gemv-vectors, gemv-runs, gemv-plain, gemv-done}
 use Rattle.product.proofs.complex.gemv.Statement.{statement}
 use Rattle.product.proofs.complex.gemv.Tie as tie
 
+quick-gemv-requires : tie.Need-quick-gemv-requires
+quick-gemv-requires c κs = search needs
+
 check-gemv-requires : tie.Need-check-gemv-requires
-check-gemv-requires c κs = tt
+check-gemv-requires c κs = c .quick-gemv .ensures
 
 passed-requires : tie.Need-passed-requires
 passed-requires c κs = tt
@@ -20,7 +23,7 @@ judge-requires : tie.Need-judge-requires
 judge-requires c κs = tt
 
 run-column-requires : tie.Need-run-column-requires
-run-column-requires c κs = gemv-runs _ _ _ _ _ _ _ _ _ (c .before .before .before .before .before .check-gemv .ensures) (c .before .before .before .before .passed .ensures) (c .before .before .before .if1 .taken) _ (c .before .before .gemv-plan .ensures)
+run-column-requires c κs = let h = gemv-runs _ _ _ _ _ _ _ _ _ (c .before .before .before .before .before .check-gemv .ensures) (c .before .before .before .before .passed .ensures) (c .before .before .before .if1 .taken) _ (c .before .before .gemv-plan .ensures) in (h .0, h .1, gemv-plain (c .before .before .before .before .before .before .before .before .before .before .args .trans) (c .before .before .before .before .before .before .before .before .before .before .args .va) _ _ _ (c .before .before .gemv-plan .ensures))
 
 same-length : tie.Need-same-length
 same-length c = search needs
@@ -35,6 +38,7 @@ pub gemv-spec : {M : Type 1} → statement M
 gemv-spec =
     tie.close
     (tie.spec
+    quick-gemv-requires
     check-gemv-requires
     passed-requires
     gemv-plan-requires

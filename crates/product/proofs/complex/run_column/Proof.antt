@@ -25,8 +25,8 @@ loop-holds : tie.Need-loop-holds Inv-loop μ-loop
 unfolding rowsOf
 loop-holds c = (omega arith, refl, refl)
 
-entry-requires : tie.Need-entry-requires Inv-loop μ-loop
-entry-requires c κs = (ready-kept _ _ _ _ _ (ap (λ (k : ℕ). k / 2) (c .before .before .loop .inv .1)) (c .before .before .before .before .before .before .before .pre .0), omega (arith, c .before .before .before .rows .ensures), omega (arith, c .before .before .before .before .before .before .before .pre .1))
+column-entry-requires : tie.Need-column-entry-requires Inv-loop μ-loop
+column-entry-requires c κs = (ready-kept _ _ _ _ _ (ap (λ (k : ℕ). k / 2) (c .before .before .loop .inv .1)) (c .before .before .before .before .before .before .before .pre .0), omega (arith, c .before .before .before .rows .ensures), omega (arith, c .before .before .before .before .before .before .before .pre .1), c .before .before .before .before .before .before .before .pre .2)
 
 add-i : tie.Need-add-i Inv-loop μ-loop
 add-i c = omega arith
@@ -35,7 +35,7 @@ loop-less : tie.Need-loop-less Inv-loop μ-loop
 loop-less c = omega arith
 
 loop-again : tie.Need-loop-again Inv-loop μ-loop
-loop-again c = (omega arith, c .before .before .entry .kept .1 .1 .1 .1 .1 .0 ∙ c .before .before .before .before .before .loop .inv .1, column-next complex _ _ _ _ _ _ (c .before .before .before .before .before .before .before .before .before .before .pre .1) (c .before .before .before .before .before .loop .inv .2) (c .before .before .entry .ensures))
+loop-again c = (omega arith, c .before .before .column-entry .kept .1 .1 .1 .1 .1 .0 ∙ c .before .before .before .before .before .loop .inv .1, column-next complex _ _ _ _ _ _ (c .before .before .before .before .before .before .before .before .before .before .pre .1) (c .before .before .before .before .before .loop .inv .2) (c .before .before .column-entry .ensures))
 
 same-length : tie.Need-same-length Inv-loop μ-loop
 same-length c = c .before .loop .inv .1
@@ -51,7 +51,7 @@ run-column-spec =
     μ-loop
     rows-requires
     loop-holds
-    entry-requires
+    column-entry-requires
     add-i
     loop-less
     loop-again

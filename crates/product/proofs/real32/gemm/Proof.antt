@@ -4,11 +4,23 @@ use Rattle.number.specs.Kind.{real32}
 use Rattle.number.specs.Scaling.{scaleBy32}
 use Rattle.number.proofs.ScalingLaws.{scale32}
 use Rattle.product_plan.proofs.Kernels.{gemm-refused, gemm-runs, gemm-done}
+use Rattle.judge.proofs.Ops.{gemm-passes}
 use Rattle.product.proofs.real32.gemm.Statement.{statement}
 use Rattle.product.proofs.real32.gemm.Tie as tie
 
+op-view-requires : tie.Need-op-view-requires
+op-view-requires c κs = search needs
+
+op-view-requires-2 : tie.Need-op-view-requires-2
+op-view-requires-2 c κs = search needs
+
+quick-gemm-requires : tie.Need-quick-gemm-requires
+quick-gemm-requires c κs = search needs
+
 check-gemm-requires : tie.Need-check-gemm-requires
-check-gemm-requires c κs = tt
+check-gemm-requires c κs h =
+    let g = c .before .before .before .before .before .before .args in
+    gemm-passes (g .ta) (g .tb) (g .va) _ (g .vb) _ (g .vc) _ _ _ (c .before .before .op-view .ensures) (c .before .op-view2 .ensures) (c .quick-gemm .ensures h)
 
 passed-requires : tie.Need-passed-requires
 passed-requires c κs = tt
@@ -35,6 +47,9 @@ pub gemm-spec : {M : Type 1} → statement M
 gemm-spec =
     tie.close
     (tie.spec
+    op-view-requires
+    op-view-requires-2
+    quick-gemm-requires
     check-gemm-requires
     passed-requires
     gemm-plan-requires

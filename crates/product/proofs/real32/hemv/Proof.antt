@@ -7,20 +7,23 @@ use Rattle.product_plan.proofs.Kernels.{hemv-refused, hemv-vectors, hemv-runs, 
 use Rattle.product.proofs.real32.hemv.Statement.{statement}
 use Rattle.product.proofs.real32.hemv.Tie as tie
 
+quick-hemv-requires : tie.Need-quick-hemv-requires
+quick-hemv-requires c κs = search needs
+
 check-hemv-requires : tie.Need-check-hemv-requires
-check-hemv-requires c κs = tt
+check-hemv-requires c κs = c .quick-hemv .ensures
 
 passed-requires : tie.Need-passed-requires
 passed-requires c κs = tt
 
 hemv-plan-requires : tie.Need-hemv-plan-requires
-hemv-plan-requires c κs = hemv-vectors (c .before .before .before .before .before .before .args .uplo) _ _ _ _ _ _ _ _ (c .before .before .check-hemv .ensures) (c .before .passed .ensures) (c .if1 .taken)
+hemv-plan-requires c κs = hemv-vectors (c .before .before .before .before .before .before .before .args .uplo) _ _ _ _ _ _ _ _ (c .before .before .check-hemv .ensures) (c .before .passed .ensures) (c .if1 .taken)
 
 judge-requires : tie.Need-judge-requires
 judge-requires c κs = tt
 
 run-left-column-requires : tie.Need-run-left-column-requires
-run-left-column-requires c κs = hemv-runs (c .before .before .before .before .before .before .before .before .before .args .uplo) _ _ _ _ _ _ _ _ (c .before .before .before .before .before .check-hemv .ensures) (c .before .before .before .before .passed .ensures) (c .before .before .before .if1 .taken) _ (c .before .before .hemv-plan .ensures)
+run-left-column-requires c κs = hemv-runs (c .before .before .before .before .before .before .before .before .before .before .args .uplo) _ _ _ _ _ _ _ _ (c .before .before .before .before .before .check-hemv .ensures) (c .before .before .before .before .passed .ensures) (c .before .before .before .if1 .taken) _ (c .before .before .hemv-plan .ensures)
 
 same-length : tie.Need-same-length
 same-length c = search needs
@@ -35,6 +38,7 @@ pub hemv-spec : {M : Type 1} → statement M
 hemv-spec =
     tie.close
     (tie.spec
+    quick-hemv-requires
     check-hemv-requires
     passed-requires
     hemv-plan-requires

@@ -7,8 +7,11 @@ use Rattle.product_plan.proofs.Kernels.{gemv-refused, gemv-vectors, gemv-runs, 
 use Rattle.product.proofs.real64.gemv.Statement.{statement}
 use Rattle.product.proofs.real64.gemv.Tie as tie
 
+quick-gemv-requires : tie.Need-quick-gemv-requires
+quick-gemv-requires c κs = search needs
+
 check-gemv-requires : tie.Need-check-gemv-requires
-check-gemv-requires c κs = tt
+check-gemv-requires c κs = c .quick-gemv .ensures
 
 passed-requires : tie.Need-passed-requires
 passed-requires c κs = tt
@@ -35,6 +38,7 @@ pub gemv-spec : {M : Type 1} → statement M
 gemv-spec =
     tie.close
     (tie.spec
+    quick-gemv-requires
     check-gemv-requires
     passed-requires
     gemv-plan-requires

@@ -25,8 +25,8 @@ loop-holds : tie.Need-loop-holds Inv-loop μ-loop
 unfolding rowsOf
 loop-holds c = (omega arith, refl, refl)
 
-folded-entry-requires : tie.Need-folded-entry-requires Inv-loop μ-loop
-folded-entry-requires c κs = (folded-kept _ _ _ _ _ (c .before .before .loop .inv .1) (c .before .before .before .before .before .before .before .pre .0), omega (arith, c .before .before .before .rows .ensures), omega (arith, c .before .before .before .before .before .before .before .pre .1))
+left-entry-requires : tie.Need-left-entry-requires Inv-loop μ-loop
+left-entry-requires c κs = (folded-kept _ _ _ _ _ (c .before .before .loop .inv .1) (c .before .before .before .before .before .before .before .pre .0), c .before .before .before .before .before .before .before .pre .1, omega (arith, c .before .before .before .rows .ensures), omega (arith, c .before .before .before .before .before .before .before .pre .2))
 
 add-i : tie.Need-add-i Inv-loop μ-loop
 add-i c = omega arith
@@ -35,7 +35,7 @@ loop-less : tie.Need-loop-less Inv-loop μ-loop
 loop-less c = omega arith
 
 loop-again : tie.Need-loop-again Inv-loop μ-loop
-loop-again c = (omega arith, c .before .before .folded-entry .kept .1 .1 .1 .1 .1 .0 ∙ c .before .before .before .before .before .loop .inv .1, column-next real64 _ _ _ _ _ _ (c .before .before .before .before .before .before .before .before .before .before .pre .1) (c .before .before .before .before .before .loop .inv .2) (c .before .before .folded-entry .ensures))
+loop-again c = (omega arith, c .before .before .left-entry .kept .1 .1 .1 .1 .1 .0 ∙ c .before .before .before .before .before .loop .inv .1, column-next real64 _ _ _ _ _ _ (c .before .before .before .before .before .before .before .before .before .before .pre .2) (c .before .before .before .before .before .loop .inv .2) (c .before .before .left-entry .ensures))
 
 same-length : tie.Need-same-length Inv-loop μ-loop
 same-length c = c .before .loop .inv .1
@@ -51,7 +51,7 @@ run-left-column-spec =
     μ-loop
     rows-requires
     loop-holds
-    folded-entry-requires
+    left-entry-requires
     add-i
     loop-less
     loop-again

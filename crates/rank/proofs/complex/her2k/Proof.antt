@@ -7,8 +7,11 @@ use Rattle.rank_plan.proofs.Kernels.{her2k-runs, her2k-done, her2k-refused}
 use Rattle.rank.proofs.complex.her2k.Statement.{statement}
 use Rattle.rank.proofs.complex.her2k.Tie as tie
 
+quick-syr2k-requires : tie.Need-quick-syr2k-requires
+quick-syr2k-requires c κs = search needs
+
 check-her2k-requires : tie.Need-check-her2k-requires
-check-her2k-requires c κs = tt
+check-her2k-requires c κs = c .quick-syr2k .ensures
 
 passed-requires : tie.Need-passed-requires
 passed-requires c κs = tt
@@ -35,6 +38,7 @@ pub her2k-spec : {M : Type 1} → statement M
 her2k-spec =
     tie.close
     (tie.spec
+    quick-syr2k-requires
     check-her2k-requires
     passed-requires
     her2k-plan-requires

@@ -4,8 +4,11 @@ use Rattle.rank_plan.proofs.Kernels.{her-vector, her-runs, her-done, her-refuse
 use Rattle.rank.proofs.real32.her.Statement.{statement}
 use Rattle.rank.proofs.real32.her.Tie as tie
 
+quick-her-requires : tie.Need-quick-her-requires
+quick-her-requires c κs = search needs
+
 check-her-requires : tie.Need-check-her-requires
-check-her-requires c κs = tt
+check-her-requires c κs = c .quick-her .ensures
 
 passed-requires : tie.Need-passed-requires
 passed-requires c κs = tt
@@ -29,6 +32,7 @@ pub her-spec : {M : Type 1} → statement M
 her-spec =
     tie.close
     (tie.spec
+    quick-her-requires
     check-her-requires
     passed-requires
     column-requires

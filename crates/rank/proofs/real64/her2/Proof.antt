@@ -4,8 +4,11 @@ use Rattle.rank_plan.proofs.Kernels.{her2-vectors, her2-runs, her2-done, her2-r
 use Rattle.rank.proofs.real64.her2.Statement.{statement}
 use Rattle.rank.proofs.real64.her2.Tie as tie
 
+quick-her2-requires : tie.Need-quick-her2-requires
+quick-her2-requires c κs = search needs
+
 check-her2-requires : tie.Need-check-her2-requires
-check-her2-requires c κs = tt
+check-her2-requires c κs = c .quick-her2 .ensures
 
 passed-requires : tie.Need-passed-requires
 passed-requires c κs = tt
@@ -32,6 +35,7 @@ pub her2-spec : {M : Type 1} → statement M
 her2-spec =
     tie.close
     (tie.spec
+    quick-her2-requires
     check-her2-requires
     passed-requires
     column-requires

@@ -7,8 +7,11 @@ use Rattle.rank_plan.proofs.Kernels.{syr2k-runs, syr2k-done, syr2k-refused}
 use Rattle.rank.proofs.real64.syr2k.Statement.{statement}
 use Rattle.rank.proofs.real64.syr2k.Tie as tie
 
+quick-syr2k-requires : tie.Need-quick-syr2k-requires
+quick-syr2k-requires c κs = search needs
+
 check-syr2k-requires : tie.Need-check-syr2k-requires
-check-syr2k-requires c κs = tt
+check-syr2k-requires c κs = c .quick-syr2k .ensures
 
 passed-requires : tie.Need-passed-requires
 passed-requires c κs = tt
@@ -35,6 +38,7 @@ pub syr2k-spec : {M : Type 1} → statement M
 syr2k-spec =
     tie.close
     (tie.spec
+    quick-syr2k-requires
     check-syr2k-requires
     passed-requires
     syr2k-plan-requires

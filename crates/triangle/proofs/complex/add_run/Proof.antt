@@ -6,16 +6,15 @@ use Rattle.number.specs.Kind.{complex}
 use Rattle.slab.specs.Elem.{elem}
 use Rattle.slab.specs.Run.{plain, more}
 use Rattle.slab.proofs.RunLaws.{more-start, more-end, more-next}
-use Rattle.order.specs.Triangles.{weigh as weighOf}
 use Rattle.order.proofs.Systems.{weighed}
 use Rattle.triangle.proofs.complex.add_run.Statement.{statement}
 use Rattle.triangle.proofs.complex.add_run.Tie as tie
 
 abbrev Inv-loop : tie.InvT-loop
-Inv-loop side conjugated a va b vb q l from n sum₀ i₀ sum i = (i ≤ n) × (sum ≡ more complex sum₀ (λ p. weighOf complex side (plain complex conjugated a va q p) (elem complex b vb p l)) from i)
+Inv-loop conjugated a va b vb q l from n sum₀ i₀ sum i = (i ≤ n) × (sum ≡ more complex sum₀ (λ p. complex .mul (plain complex conjugated a va q p) (elem complex b vb p l)) from i)
 
 abbrev μ-loop : tie.MeasureT-loop
-μ-loop side conjugated a va b vb q l from n sum₀ i₀ sum i = n - i
+μ-loop conjugated a va b vb q l from n sum₀ i₀ sum i = n - i
 
 loop-holds : tie.Need-loop-holds Inv-loop μ-loop
 loop-holds c = (omega arith, more-start complex _ _ _)
@@ -29,8 +28,8 @@ at-requires c κs = c .before .before .before .before .pre .left _ (omega arith)
 elem-complex-requires : tie.Need-elem-complex-requires Inv-loop μ-loop
 elem-complex-requires c κs = c .before .before .before .before .before .pre .right _ (omega arith)
 
-weigh-requires : tie.Need-weigh-requires Inv-loop μ-loop
-weigh-requires c κs = tt
+mul-requires : tie.Need-mul-requires Inv-loop μ-loop
+mul-requires c κs = tt
 
 add-requires : tie.Need-add-requires Inv-loop μ-loop
 add-requires c κs = tt
@@ -44,7 +43,7 @@ loop-less c = omega arith
 loop-again : tie.Need-loop-again Inv-loop μ-loop
 loop-again c =
     let p = c .before .before .before .before .before .before .before .before .args in
-    (omega arith, more-next complex (λ k. weighOf complex (p .side) (plain complex (p .conjugated) (now (p .a)) (p .va) (p .q) k) (elem complex (now (p .b)) (p .vb) k (p .l))) _ _ _ _ _ _ (c .before .before .before .before .before .loop .inv .1) (weighed complex (p .side) _ _ _ _ _ (c .before .before .before .at .ensures) (c .before .before .elem-complex .ensures) (c .before .weigh .ensures)) (c .add .ensures))
+    (omega arith, more-next complex (λ k. complex .mul (plain complex (p .conjugated) (now (p .a)) (p .va) (p .q) k) (elem complex (now (p .b)) (p .vb) k (p .l))) _ _ _ _ _ _ (c .before .before .before .before .before .loop .inv .1) (weighed complex _ _ _ _ _ (c .before .before .before .at .ensures) (c .before .before .elem-complex .ensures) (c .before .mul .ensures)) (c .add .ensures))
 
 returns : tie.Need-returns Inv-loop μ-loop
 returns c = more-end complex _ _ _ _ _ _ (c .before .loop .inv .0) (omega arith) (c .before .loop .inv .1)
@@ -59,7 +58,7 @@ add-run-spec =
     add-p
     at-requires
     elem-complex-requires
-    weigh-requires
+    mul-requires
     add-requires
     add-i
     loop-less

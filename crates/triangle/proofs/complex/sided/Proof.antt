@@ -1,59 +1,46 @@
 use Prim.Native.Nat.{ℕ, _/_}
-use mathlib.Core.Path.{refl, ap}
+use mathlib.Core.Path.{ap}
 use Rattle.number.specs.Kind.{complex}
-use Rattle.view.specs.declared.Side.the-variants.{Left, Right}
+use Rattle.number.proofs.Instances.{complex-laws}
+use Rattle.order.proofs.InOrder.{complex-swaps}
+use Rattle.order.proofs.Commutes.{complex-commutes}
 use Rattle.order.proofs.Systems.{ready-made}
-use Rattle.order.proofs.Solves.{left-gives, right-gives}
-use Rattle.order.proofs.SolveKernels.{scaled-solve}
+use Rattle.order.proofs.Solves.{solved-gives}
+use Rattle.order.proofs.SolveKernels.{sided-gives}
 use borrow.Author.Needs.{needs}
 use Rattle.triangle.proofs.complex.sided.Statement.{statement}
 use Rattle.triangle.proofs.complex.sided.Tie as tie
 
-enum-told : tie.Need-enum-told
-enum-told c = search needs
+scale-right-requires : tie.Need-scale-right-requires
+scale-right-requires c κs = search needs
 
 system-of-requires : tie.Need-system-of-requires
 system-of-requires c κs = search needs
 
-solve-left-requires : tie.Need-solve-left-requires
-solve-left-requires c κs = ready-made (c .before .before .before .before .before .before .args .uplo) (c .before .before .before .before .before .before .args .t) (c .before .before .before .before .before .before .args .diag) _ _ _ _ Left _ _ (rw (c .before .before .enum-told .given .1) at (c .before .before .before .before .before .before .pre)) (c .before .system-of .ensures) refl
+is-left-requires : tie.Need-is-left-requires
+is-left-requires c κs = search needs
 
-enum-told-2 : tie.Need-enum-told-2
-enum-told-2 c = search needs
-
-scale-requires : tie.Need-scale-requires
-scale-requires c κs = search needs
-
-system-of-requires-2 : tie.Need-system-of-requires-2
-system-of-requires-2 c κs = search needs
-
-solve-right-requires : tie.Need-solve-right-requires
-solve-right-requires c κs = ready-made (c .before .before .before .before .before .before .before .before .before .before .args .uplo) (c .before .before .before .before .before .before .before .before .before .before .args .t) (c .before .before .before .before .before .before .before .before .before .before .args .diag) _ _ _ _ Right _ _ (rw (c .before .before .before .before .before .before .enum-told2 .given .1) at (c .before .before .before .before .before .before .before .before .before .before .pre)) (c .before .system-of2 .ensures) (ap (λ (n : ℕ). n / 2) (c .before .before .before .before .scale .kept .1 .0))
+solve-lines-requires : tie.Need-solve-lines-requires
+solve-lines-requires c κs =
+    let p = c .before .before .before .before .before .before .before .before .before .args in
+    ready-made (p .uplo) (p .t) (p .diag) _ _ _ _ (p .side) _ _ (c .before .before .before .before .before .before .before .before .before .pre) (c .before .before .system-of .ensures) (ap (λ (n : ℕ). n / 2) (c .before .before .before .before .before .scale-right .kept .1 .1 .0))
 
 same-length : tie.Need-same-length
 same-length c = search needs
 
 returns : tie.Need-returns
-returns c = rw (c .before .before .before .before .before .enum-told .given .1) (left-gives complex (c .before .before .before .before .before .before .before .before .before .args .uplo) (c .before .before .before .before .before .before .before .before .before .args .t) (c .before .before .before .before .before .before .before .before .before .args .diag) _ _ _ _ _ _ _ _ (c .before .before .before .before .system-of .ensures) (c .before .before .solve-left .ensures))
-
-same-length-2 : tie.Need-same-length-2
-same-length-2 c = search needs
-
-returns-2 : tie.Need-returns-2
-returns-2 c = rw (c .before .before .before .before .before .before .before .before .before .enum-told2 .given .1) (scaled-solve complex _ _ _ _ _ _ _ _ _ _ (c .before .before .before .before .before .before .before .scale .ensures) (right-gives complex (c .before .before .before .before .before .before .before .before .before .before .before .before .before .args .uplo) (c .before .before .before .before .before .before .before .before .before .before .before .before .before .args .t) (c .before .before .before .before .before .before .before .before .before .before .before .before .before .args .diag) _ _ _ _ _ _ _ _ (c .before .before .before .before .system-of2 .ensures) (c .before .before .solve-right .ensures)))
+returns c =
+    let p = c .before .before .before .before .before .before .before .before .before .before .before .before .args in
+    sided-gives complex _ _ _ _ _ _ _ _ _ _ _ _ (c .before .before .before .before .before .before .before .before .scale-right .ensures) (c .before .before .before .before .is-left .ensures)
+    (solved-gives complex complex-commutes (p .uplo) (p .t) (p .diag) _ _ _ _ _ _ _ (complex-laws .slab) complex-swaps (p .side) _ (c .before .before .before .before .before .system-of .ensures) (c .before .before .before .before .before .before .before .before .before .before .before .before .pre .distinct) (c .before .before .solve-lines .ensures))
 
 pub sided-spec : {M : Type 1} → statement M
 sided-spec =
     tie.close
     (tie.spec
-    enum-told
+    scale-right-requires
     system-of-requires
-    solve-left-requires
-    enum-told-2
-    scale-requires
-    system-of-requires-2
-    solve-right-requires
+    is-left-requires
+    solve-lines-requires
     same-length
-    returns
-    same-length-2
-    returns-2)
+    returns)

@@ -1,20 +1,20 @@
 use Prim.Native.Nat.{_≤_, _-_}
-use mathlib.Core.Path.{_≡_, sym, _∙_}
+use mathlib.Core.Path.{_≡_, sym}
 use native.Mathlib.Omega.{arith}
 use Rattle.number.specs.Kind.{real32}
 use Rattle.slab.specs.Elem.{elem}
 use Rattle.slab.specs.Run.{plain}
 use Rattle.blas.specs.Substitution.{less}
 use Rattle.blas.proofs.SubstitutionLaws.{less-start, less-next, less-end}
-use Rattle.order.specs.Triangles.{weigh}
+use Rattle.order.proofs.Systems.{weighed}
 use Rattle.triangle.proofs.real32.reduce.Statement.{statement}
 use Rattle.triangle.proofs.real32.reduce.Tie as tie
 
 abbrev Inv-loop : tie.InvT-loop
-Inv-loop side conjugated a va b vb q l from n x rest₀ i₀ rest i = (i ≤ n) × (rest ≡ less real32 x (λ p. weigh real32 side (plain real32 conjugated a va q p) (elem real32 b vb p l)) from i)
+Inv-loop conjugated a va b vb q l from n x rest₀ i₀ rest i = (i ≤ n) × (rest ≡ less real32 x (λ p. real32 .mul (plain real32 conjugated a va q p) (elem real32 b vb p l)) from i)
 
 abbrev μ-loop : tie.MeasureT-loop
-μ-loop side conjugated a va b vb q l from n x rest₀ i₀ rest i = n - i
+μ-loop conjugated a va b vb q l from n x rest₀ i₀ rest i = n - i
 
 loop-holds : tie.Need-loop-holds Inv-loop μ-loop
 loop-holds c = (omega arith, sym (less-start real32 _ _ _))
@@ -28,8 +28,8 @@ at-requires c κs = c .before .before .before .before .pre .left _ (omega arith)
 elem32-requires : tie.Need-elem32-requires Inv-loop μ-loop
 elem32-requires c κs = c .before .before .before .before .before .pre .right _ (omega arith)
 
-weigh-requires : tie.Need-weigh-requires Inv-loop μ-loop
-weigh-requires c κs = tt
+mul-requires : tie.Need-mul-requires Inv-loop μ-loop
+mul-requires c κs = tt
 
 sub-requires : tie.Need-sub-requires Inv-loop μ-loop
 sub-requires c κs = tt
@@ -41,9 +41,7 @@ loop-less : tie.Need-loop-less Inv-loop μ-loop
 loop-less c = omega arith
 
 loop-again : tie.Need-loop-again Inv-loop μ-loop
-loop-again c =
-    let p = c .before .before .before .before .before .before .before .before .args in
-    (omega arith, less-next real32 _ _ _ _ _ _ _ (c .before .before .before .before .before .loop .inv .1) (c .before .weigh .ensures ∙ (λ j. weigh real32 (p .side) (c .before .before .before .at .ensures j) (c .before .before .elem32 .ensures j))) (c .sub .ensures))
+loop-again c = (omega arith, less-next real32 _ _ _ _ _ _ _ (c .before .before .before .before .before .loop .inv .1) (weighed real32 _ _ _ _ _ (c .before .before .before .at .ensures) (c .before .before .elem32 .ensures) (c .before .mul .ensures)) (c .sub .ensures))
 
 returns : tie.Need-returns Inv-loop μ-loop
 returns c = less-end real32 _ _ _ _ _ _ (c .before .loop .inv .0) (omega arith) (c .before .loop .inv .1)
@@ -58,7 +56,7 @@ reduce-spec =
     add-p
     at-requires
     elem32-requires
-    weigh-requires
+    mul-requires
     sub-requires
     add-i
     loop-less

@@ -5,8 +5,11 @@ use borrow.Author.Needs.{needs}
 use Rattle.triangle.proofs.real32.trsm.Statement.{statement}
 use Rattle.triangle.proofs.real32.trsm.Tie as tie
 
+quick-trmm-requires : tie.Need-quick-trmm-requires
+quick-trmm-requires c κs = search needs
+
 check-trsm-requires : tie.Need-check-trsm-requires
-check-trsm-requires c κs = search needs
+check-trsm-requires c κs = c .quick-trmm .ensures
 
 passed-requires : tie.Need-passed-requires
 passed-requires c κs = search needs
@@ -26,4 +29,5 @@ returns-2 c = trsm-refused real32 _ _ _ _ _ _ _ _ _ (c .before .before .check-tr
 pub trsm-spec : {M : Type 1} → statement M
 trsm-spec =
     tie.close
-    (tie.spec check-trsm-requires passed-requires sided-requires same-length returns returns-2)
+    (tie.spec quick-trmm-requires
+    check-trsm-requires passed-requires sided-requires same-length returns returns-2)

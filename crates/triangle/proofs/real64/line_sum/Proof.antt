@@ -15,8 +15,8 @@ own-weight-requires c κs = search needs
 elem64-requires : tie.Need-elem64-requires
 elem64-requires c κs = search needs
 
-weigh-requires : tie.Need-weigh-requires
-weigh-requires c κs = search needs
+mul-requires : tie.Need-mul-requires
+mul-requires c κs = search needs
 
 rows-requires : tie.Need-rows-requires
 rows-requires c κs = search needs
@@ -43,10 +43,10 @@ add-requires-2 : tie.Need-add-requires-2
 add-requires-2 c κs = search needs
 
 returns : tie.Need-returns
-returns c = let p = c .before .before .before .before .before .before .before .before .before .args in sum-behind real64 (p .sys) (now (p .a)) (now (p .b)) (p .q) (p .l) _ _ _ _ (c .before .before .before .before .before .before .own-weight .ensures) (c .before .before .before .before .before .elem64 .ensures) (c .before .before .before .before .weigh .ensures) (zero-literal binary64) _ _ _ (c .before .before .before .if1 .taken) (c .before .before .rows .ensures) (c .before .add .ensures) (c .add-run .ensures)
+returns c = let p = c .before .before .before .before .before .before .before .before .before .args in sum-behind real64 (p .sys) (now (p .a)) (now (p .b)) (p .q) (p .l) _ _ _ _ (c .before .before .before .before .before .before .own-weight .ensures) (c .before .before .before .before .before .elem64 .ensures) (c .before .before .before .before .mul .ensures) (zero-literal binary64) _ _ _ (c .before .before .before .if1 .taken) (c .before .before .rows .ensures) (c .before .add .ensures) (c .add-run .ensures)
 
 returns-2 : tie.Need-returns-2
-returns-2 c = let p = c .before .before .before .before .before .before .before .before .args in sum-before real64 (p .sys) (now (p .a)) (now (p .b)) (p .q) (p .l) _ _ _ _ (c .before .before .before .before .before .own-weight .ensures) (c .before .before .before .before .elem64 .ensures) (c .before .before .before .weigh .ensures) (zero-literal binary64) _ _ (c .before .before .if1 .left) (c .before .add-run2 .ensures) (c .add2 .ensures)
+returns-2 c = let p = c .before .before .before .before .before .before .before .before .args in sum-before real64 (p .sys) (now (p .a)) (now (p .b)) (p .q) (p .l) _ _ _ _ (c .before .before .before .before .before .own-weight .ensures) (c .before .before .before .before .elem64 .ensures) (c .before .before .before .mul .ensures) (zero-literal binary64) _ _ (c .before .before .if1 .left) (c .before .add-run2 .ensures) (c .add2 .ensures)
 
 pub line-sum-spec : {M : Type 1} → statement M
 line-sum-spec =
@@ -54,7 +54,7 @@ line-sum-spec =
     (tie.spec
     own-weight-requires
     elem64-requires
-    weigh-requires
+    mul-requires
     rows-requires
     sub-n
     sub-n-2

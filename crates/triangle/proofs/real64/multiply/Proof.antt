@@ -5,17 +5,16 @@ use lib.ListN.{length}
 use Rattle.number.specs.Kind.{real64}
 use Rattle.order.specs.Walk.{walk}
 use Rattle.order.specs.Multiply.{multiplyColumn}
-use Rattle.order.specs.Triangles.{timesIf}
 use Rattle.order.proofs.Systems.{ready-kept}
 use Rattle.order.proofs.WalkLaws.{walk-start, walk-next, walk-end}
 use Rattle.triangle.proofs.real64.multiply.Statement.{statement}
 use Rattle.triangle.proofs.real64.multiply.Tie as tie
 
 abbrev Inv-loop : tie.InvT-loop
-Inv-loop sys times alpha a b₀ n j₀ b j = (j ≤ n) × (length b ≡ length b₀) × (b ≡ walk j (λ k. multiplyColumn real64 sys a (timesIf real64 times (alpha .0)) k (sys .rows)) b₀)
+Inv-loop sys alpha a b₀ n j₀ b j = (j ≤ n) × (length b ≡ length b₀) × (b ≡ walk j (λ k. multiplyColumn real64 sys a (real64 .mul (alpha .0)) k (sys .rows)) b₀)
 
 abbrev μ-loop : tie.MeasureT-loop
-μ-loop sys times alpha a b₀ n j₀ b j = n - j
+μ-loop sys alpha a b₀ n j₀ b j = n - j
 
 loop-holds : tie.Need-loop-holds Inv-loop μ-loop
 loop-holds c = (omega arith, refl, walk-start _ _)
@@ -30,7 +29,7 @@ loop-less : tie.Need-loop-less Inv-loop μ-loop
 loop-less c = omega arith
 
 loop-again : tie.Need-loop-again Inv-loop μ-loop
-loop-again c = (omega arith, c .before .before .multiply-column .kept .1 .1 .1 .1 .0 ∙ c .before .before .before .before .before .loop .inv .1, walk-next _ _ _ _ _ (c .before .before .before .before .before .loop .inv .2) (c .before .before .multiply-column .ensures))
+loop-again c = (omega arith, c .before .before .multiply-column .kept .1 .1 .1 .0 ∙ c .before .before .before .before .before .loop .inv .1, walk-next _ _ _ _ _ (c .before .before .before .before .before .loop .inv .2) (c .before .before .multiply-column .ensures))
 
 same-length : tie.Need-same-length Inv-loop μ-loop
 same-length c = c .before .loop .inv .1

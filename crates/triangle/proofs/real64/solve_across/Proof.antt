@@ -12,19 +12,16 @@ use Rattle.triangle.proofs.real64.solve_across.Statement.{statement}
 use Rattle.triangle.proofs.real64.solve_across.Tie as tie
 
 abbrev Inv-loop : tie.InvT-loop
-Inv-loop sys times alpha a b₀ k n l₀ b l = (l ≤ n) × (length b ≡ length b₀) × (b ≡ walk l (λ j. solveOne real64 sys (timesIf real64 times (alpha .0)) a k j) b₀)
+Inv-loop sys times alpha a b₀ n k l₀ b l = (l ≤ n) × (length b ≡ length b₀) × (b ≡ walk l (λ j. solveOne real64 sys (timesIf real64 times (alpha .0)) a k j) b₀)
 
 abbrev μ-loop : tie.MeasureT-loop
-μ-loop sys times alpha a b₀ k n l₀ b l = n - l
-
-cols-requires : tie.Need-cols-requires Inv-loop μ-loop
-cols-requires c κs = tt
+μ-loop sys times alpha a b₀ n k l₀ b l = n - l
 
 loop-holds : tie.Need-loop-holds Inv-loop μ-loop
 loop-holds c = (omega arith, refl, walk-start _ _)
 
 solve-one-requires : tie.Need-solve-one-requires Inv-loop μ-loop
-solve-one-requires c κs = ready-for _ _ _ _ _ _ _ _ (c .before .before .before .before .before .before .pre .0) (c .before .before .loop .inv .1) refl (c .before .before .before .cols .ensures) (c .before .before .before .before .before .before .pre .1) (omega arith)
+solve-one-requires c κs = let p = c .before .before .before .before .before .pre in ready-for _ _ _ _ _ _ _ _ (p .0) (c .before .before .loop .inv .1) refl refl (p .1 .1) (omega (arith, p .1 .0))
 
 add-l : tie.Need-add-l Inv-loop μ-loop
 add-l c = omega arith
@@ -39,7 +36,7 @@ same-length : tie.Need-same-length Inv-loop μ-loop
 same-length c = c .before .loop .inv .1
 
 returns : tie.Need-returns Inv-loop μ-loop
-returns c = walk-end _ _ _ _ _ (omega (arith, c .before .loop .inv .0, c .before .before .cols .ensures)) (omega (arith, c .before .before .cols .ensures)) (c .before .loop .inv .2)
+returns c = walk-end _ _ _ _ _ (c .before .loop .inv .0) (omega arith) (c .before .loop .inv .2)
 
 pub solve-across-spec : {M : Type 1} → statement M
 solve-across-spec =
@@ -47,7 +44,6 @@ solve-across-spec =
     (tie.spec
     Inv-loop
     μ-loop
-    cols-requires
     loop-holds
     solve-one-requires
     add-l

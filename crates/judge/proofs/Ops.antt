@@ -1,0 +1,41 @@
+-- A call on the views of op(A) and op(B) is judged as one on A and B.
+use mathlib.Core.Path.{_≡_, refl, sym, _∙_}
+use mathlib.Core.Bool.{_&&_}
+use Prim.Native.Nat.{ℕ}
+use lib.Dec.{eqb}
+use Rattle.view.specs.declared.View.{View}
+use Rattle.view.specs.declared.Answer.the-variants.{Done}
+use Rattle.view.specs.declared.Trans.{Trans}
+use Rattle.view.specs.declared.Trans.the-variants.{NoTrans, Trans as Transposed, ConjTrans}
+use Rattle.view.specs.Place.{transposedOf, opViewOf}
+use Rattle.view.specs.TransposeLaws.{transposed-accepted}
+use Rattle.view.specs.Steps.{Accepted}
+use Rattle.view.specs.JudgeLaws.{judge-passed}
+use Rattle.view.specs.Checks.{opRows, opCols, gemmShape, gemmCheck}
+use Rattle.judge.proofs.Passes.{pass3}
+
+op-rows-are : (t : Trans) (a : View) → opRows NoTrans (opViewOf t a) ≡ opRows t a
+op-rows-are NoTrans a = refl
+op-rows-are Transposed a = refl
+op-rows-are ConjTrans a = refl
+
+op-cols-are : (t : Trans) (a : View) → opCols NoTrans (opViewOf t a) ≡ opCols t a
+op-cols-are NoTrans a = refl
+op-cols-are Transposed a = refl
+op-cols-are ConjTrans a = refl
+
+accepted-back : (t : Trans) (a : View) (len : ℕ) → Accepted (opViewOf t a) len → Accepted a len
+accepted-back NoTrans a len p = p
+accepted-back Transposed a len p = transposed-accepted (transposedOf a) len p
+accepted-back ConjTrans a len p = transposed-accepted (transposedOf a) len p
+
+shape-is : (ta tb : Trans) (a b c : View) → gemmShape NoTrans NoTrans (opViewOf ta a) (opViewOf tb b) c ≡ gemmShape ta tb a b c
+unfolding gemmShape
+shape-is ta tb a b c i =
+    eqb (op-cols-are ta a i) (op-rows-are tb b i) && (eqb (c .rows) (op-rows-are ta a i) && eqb (c .cols) (op-cols-are tb b i))
+
+pub gemm-passes : (ta tb : Trans) (a : View) (la : ℕ) (b : View) (lb : ℕ) (c : View) (lc : ℕ) (oa ob : View) → oa ≡ opViewOf ta a → ob ≡ opViewOf tb b
+    → gemmCheck NoTrans NoTrans oa la ob lb c lc ≡ Done → gemmCheck ta tb a la b lb c lc ≡ Done
+gemm-passes ta tb a la b lb c lc oa ob e d h =
+    let p = judge-passed _ _ _ (sym (λ i. gemmCheck NoTrans NoTrans (e i) la (d i) lb c lc) ∙ h) in
+    pass3 a la b lb c lc (sym (shape-is ta tb a b c) ∙ p .shape) (accepted-back ta a la (p .each .0)) (accepted-back tb b lb (p .each .1 .0)) (p .each .1 .1 .0) (p .distinct)

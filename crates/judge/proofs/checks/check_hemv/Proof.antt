@@ -1,0 +1,20 @@
+-- `check_hemv` meets its contract, by those of its parts.
+use borrow.Author.Needs.{needs}
+use mathlib.Core.Path.{sym}
+use Rattle.judge.proofs.checks.check_hemv.Statement.{statement}
+use Rattle.judge.proofs.checks.check_hemv.Tie as tie
+
+hemv-requires : tie.Need-hemv-requires
+hemv-requires c κs = search needs
+
+judge3-requires : tie.Need-judge3-requires
+judge3-requires c κs = search needs
+
+returns : tie.Need-returns
+returns c = sym (c .before .pre (c .if1 .taken))
+
+returns-2 : tie.Need-returns-2
+returns-2 c = cc
+
+pub check-hemv-spec : {M : Type 1} → statement M
+check-hemv-spec = tie.close (tie.spec hemv-requires judge3-requires returns returns-2)
