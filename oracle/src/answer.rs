@@ -51,11 +51,17 @@ pub struct Scalars<T: Element> {
 
 impl<T: Element> Scalars<T> {
     pub fn of(call: &Call) -> Self {
+        Self::read(&call.alpha, &call.beta)
+    }
+
+    /// The scalars from their cells, two or more each.
+    #[inline(always)]
+    pub fn read(alpha: &[u64], beta: &[u64]) -> Self {
         Scalars {
-            alpha: T::read(&call.alpha),
-            real_alpha: T::real(call.alpha[0]),
-            beta: T::read(&call.beta),
-            real_beta: T::real(call.beta[0]),
+            alpha: T::read(alpha),
+            real_alpha: T::real(alpha[0]),
+            beta: T::read(beta),
+            real_beta: T::real(beta[0]),
         }
     }
 }

@@ -29,6 +29,8 @@ pub mod number;
 #[cfg(reference)]
 pub mod published;
 pub mod random;
+#[cfg(reference)]
+pub mod reference;
 pub mod refusal;
 pub mod storage;
 pub mod value;

@@ -29,25 +29,42 @@ pub enum Side {
 
 impl Trans {
     pub fn of(flag: u8) -> Self {
-        [Trans::NoTrans, Trans::Trans, Trans::ConjTrans][usize::from(flag)]
+        match flag {
+            0 => Trans::NoTrans,
+            1 => Trans::Trans,
+            2 => Trans::ConjTrans,
+            _ => panic!("a flag out of its range"),
+        }
     }
 }
 
 impl UpLo {
     pub fn of(flag: u8) -> Self {
-        [UpLo::Upper, UpLo::Lower][usize::from(flag)]
+        match flag {
+            0 => UpLo::Upper,
+            1 => UpLo::Lower,
+            _ => panic!("a flag out of its range"),
+        }
     }
 }
 
 impl Diag {
     pub fn of(flag: u8) -> Self {
-        [Diag::NonUnit, Diag::Unit][usize::from(flag)]
+        match flag {
+            0 => Diag::NonUnit,
+            1 => Diag::Unit,
+            _ => panic!("a flag out of its range"),
+        }
     }
 }
 
 impl Side {
     pub fn of(flag: u8) -> Self {
-        [Side::Left, Side::Right][usize::from(flag)]
+        match flag {
+            0 => Side::Left,
+            1 => Side::Right,
+            _ => panic!("a flag out of its range"),
+        }
     }
 }
 
