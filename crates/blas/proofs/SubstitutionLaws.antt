@@ -30,6 +30,19 @@ module _ (K : Kind) (x : K .Elem) (f : ℕ → K .Elem) (from : ℕ) where
       let q : p ≡ n = omega arith in
       subst (λ (k : ℕ). y ≡ less K x f from k) q e
 
+  -- two terms in a round, and the last one where their number is odd
+  pub less-two : (i : ℕ) (y z w : K .Elem) → y ≡ less K x f from (2 * i) → z ≡ K .sub y (f (from + 2 * i)) → w ≡ K .sub z (f (from + (2 * i + 1))) → w ≡ less K x f from (2 * (i + 1))
+  less-two i y z w h g e =
+      let one = less-next (2 * i) y (f (from + 2 * i)) z h refl g in
+      let two = less-next (2 * i + 1) z (f (from + (2 * i + 1))) w one refl e in
+      subst (λ (k : ℕ). w ≡ less K x f from k) (twice i) two
+    where
+      twice : (i : ℕ) → 2 * i + 1 + 1 ≡ 2 * (i + 1)
+      twice i = omega arith
+
+  pub less-odd : (i n : ℕ) (y w : K .Elem) → 2 * i + 1 ≡ n → y ≡ less K x f from (2 * i) → w ≡ K .sub y (f (from + 2 * i)) → w ≡ less K x f from n
+  less-odd i n y w o e g = subst (λ (j : ℕ). w ≡ less K x f from j) o (less-next (2 * i) y (f (from + 2 * i)) w e refl g)
+
 -- ---- solving order
 
 pub in-order-lt : (last : Bool) (m k : ℕ) → k < m → inOrder last m k < m

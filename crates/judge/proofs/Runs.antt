@@ -1,8 +1,8 @@
 -- What the quick tests give, and the parts of a view that machine integers carry.
 use mathlib.Core.Path.{_≡_, refl, sym, _∙_, ap, subst}
-use mathlib.Core.Bool.{Bool, true, false, cond}
+use mathlib.Core.Bool.{Bool, true, false, not}
 use Prim.Native.Nat.{ℕ, zero, suc, _-_, _*_, _^_, _≤_, _<_}
-use native.Mathlib.Nat.{mul-zero, zero-mul, mul-one, one-mul, mul-le-mul}
+use native.Mathlib.Nat.{mul-zero, zero-mul, mul-one, mul-le-mul}
 use native.Mathlib.Omega.{arith}
 use lib.Dec.{T, ltb, eqb}
 use lib.IntN.{ℤ, pos, negsuc, natAbs}
@@ -11,16 +11,15 @@ use mir.Syntax.{w64}
 use mir.Val.{Fits, ofZ}
 use borrow.Author.Tests.{ltb-true, eq-eqb}
 use Rattle.view.specs.declared.View.{View}
-use Rattle.view.specs.Place.{transposedOf}
+use Rattle.view.specs.AnyLaws.{clash}
 use Rattle.view.specs.Refusals.{limit, overlaps, isVector}
 use Rattle.view.specs.Steps.{up, down, meets, Accepted}
-use Rattle.judge.specs.Tests.{uprightOf, Count, Run, Plain, Column}
+use Rattle.judge.specs.Tests.{Count, Run, Plain, Column}
 use Rattle.view.specs.Checks.{vectorOf}
-use Rattle.view.specs.TransposeLaws.{transposed-accepted}
 use Rattle.view.specs.OverlapLaws.{overlaps-is, no-meeting}
 use Rattle.refusal.proofs.Extent.{extent-fits}
-use Rattle.refusal.proofs.Multiples.{turned, each-past}
-use Rattle.judge.proofs.Vectors.{thin-rows, thin-cols, length-is}
+use Rattle.refusal.proofs.Multiples.{each-past}
+use Rattle.judge.proofs.Vectors.{thin-cols, length-is}
 
 pub no-test : {A : Type 0} → false ≡ true → A
 no-test {A} h = subst (λ (b : Bool). at b) h tt
@@ -28,6 +27,9 @@ no-test {A} h = subst (λ (b : Bool). at b) h tt
     at : Bool → Type 0
     at true = A
     at false = Unit
+
+pub differs : (m n : ℕ) → not (eqb m n) ≡ true → m ≡ n → ⊥
+differs m n h e = clash h (ap not (eq-eqb m n e))
 
 pub few-is : (n : ℕ) → (n ≡ 0 → ⊥) → ltb (n - 1) limit ≡ true → Count n
 few-is n p h = let q = ltb-true (n - 1) limit h in (omega arith, omega arith)
@@ -76,28 +78,28 @@ leads-on n (negsuc k) r h = absurd (at k (r .forward))
     at : (k : ℕ) → suc k ≡ 0 → ⊥
     at k e = omega arith
 
--- ---- vectors: columns, and rows as columns
+-- ---- vectors that stand as columns
 
 column-accepted : (v : View) (n len : ℕ) → Column v n len → Accepted v len
 column-accepted v n len k =
-    let r = k .run in
+    let r = k .reaching .run in
     record {
       rows-le = omega (arith, k .rows-are, r .few);
       cols-le = omega (arith, k .one);
-      fits = extent-fits v len (n - 1) 0 (omega (arith, k .rows-are, r .some)) (omega (arith, k .one)) (omega (arith, k .below))
-          (omega (arith, k .below, zero-mul (up (v .cs))))
+      fits = extent-fits v len (n - 1) 0 (omega (arith, k .rows-are, r .some)) (omega (arith, k .one)) (omega (arith, k .reaching .below))
+          (omega (arith, k .reaching .below, zero-mul (up (v .cs))))
           (omega (arith, ap (λ (d : ℕ). (n - 1) * d) (r .forward), mul-zero (n - 1), zero-mul (down (v .cs))));
     }
 
-column-distinct : (v : View) (n len : ℕ) → Column v n len → 0 < up (v .rs) → overlaps v ≡ false
+pub column-distinct : (v : View) (n len : ℕ) → Column v n len → 0 < up (v .rs) → overlaps v ≡ false
 column-distinct v n len k h =
     overlaps-is v
     ∙ no-meeting (v .rows) (natAbs (v .rs)) (v .cols) (natAbs (v .cs))
     (each-past (v .rows) (natAbs (v .rs)) (v .cols) (natAbs (v .cs))
     (omega (arith, k .one, ap (λ (m : ℕ). (m - 1) * natAbs (v .cs)) (k .one), zero-mul (natAbs (v .cs))))
-    (omega (arith, h, run-abs n (v .rs) (k .run), ap (λ (m : ℕ). (m - 1) * natAbs (v .cs)) (k .one), zero-mul (natAbs (v .cs)))))
+    (omega (arith, h, run-abs n (v .rs) (k .reaching .run), ap (λ (m : ℕ). (m - 1) * natAbs (v .cs)) (k .one), zero-mul (natAbs (v .cs)))))
 
--- a vector of length n, by its columns or by its rows
+-- a vector of length n
 of-length : (v : View) (n : ℕ) → isVector v ≡ true → v .rows * v .cols ≡ n → vectorOf v n ≡ true
 of-length v n h e = sym (length-is v n n h e) ∙ eq-eqb n n refl
 
@@ -105,29 +107,8 @@ pub record Line (v : View) (n len : ℕ) : Type 0 where
   pub accepted : Accepted v len
   pub vector : vectorOf v n ≡ true
 
-standing : (v : View) (n len : ℕ) → Column v n len → Line v n len
+pub standing : (v : View) (n len : ℕ) → Column v n len → Line v n len
 standing v n len k = record {
   accepted = column-accepted v n len k;
   vector = of-length v n (thin-cols v (omega (arith, k .one))) (ap (λ (m : ℕ). v .rows * m) (k .one) ∙ mul-one (v .rows) ∙ k .rows-are);
 }
-
-lying : (v : View) (n len : ℕ) → Column (transposedOf v) n len → Line v n len
-lying v n len k = record {
-  accepted = transposed-accepted (transposedOf v) len (column-accepted (transposedOf v) n len k);
-  vector = of-length v n (thin-rows v (omega (arith, k .one))) (ap (λ (m : ℕ). m * v .cols) (k .one) ∙ one-mul (v .cols) ∙ k .rows-are);
-}
-
-pub upright-line : (v u : View) (n len : ℕ) → u ≡ uprightOf v → Column u n len → Line v n len
-upright-line v u n len e k = at (eqb (v .cols) 1) (subst (λ (w : View). Column w n len) e k)
-  where
-    at : (b : Bool) → Column (cond b v (transposedOf v)) n len → Line v n len
-    at true k = standing v n len k
-    at false k = lying v n len k
-
-pub upright-distinct : (v u : View) (n len : ℕ) → u ≡ uprightOf v → Column u n len → 0 < up (u .rs) → overlaps v ≡ false
-upright-distinct v u n len e k h = at (eqb (v .cols) 1) (subst (λ (w : View). overlaps w ≡ false) e (column-distinct u n len k h))
-  where
-    at : (b : Bool) → overlaps (cond b v (transposedOf v)) ≡ false → overlaps v ≡ false
-    at true f = f
-    at false f =
-        overlaps-is v ∙ turned (v .rows) (natAbs (v .rs)) (v .cols) (natAbs (v .cs)) ∙ sym (overlaps-is (transposedOf v)) ∙ f

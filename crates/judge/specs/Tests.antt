@@ -1,11 +1,8 @@
 -- What the views are that the quick tests pass.
 use mathlib.Core.Path.{_≡_}
-use mathlib.Core.Bool.{cond}
 use Prim.Native.Nat.{ℕ, _+_, _-_, _*_, _^_, _≤_, _<_}
-use lib.Dec.{eqb}
 use lib.IntN.{ℤ}
 use Rattle.view.specs.declared.View.{View}
-use Rattle.view.specs.Place.{transposedOf}
 use Rattle.view.specs.Refusals.{limit}
 use Rattle.view.specs.Steps.{up, down}
 
@@ -25,13 +22,13 @@ abbrev pub Plain : View → ℕ → Type 0
 Plain v len =
     Run (v .rows) (v .rs) × Run (v .cols) (v .cs) × (v .start + ((v .rows - 1) * up (v .rs) + (v .cols - 1) * up (v .cs)) < len)
 
--- a column as it is, and a row as a column
-abbrev pub uprightOf : View → View
-uprightOf v = cond (eqb (v .cols) 1) v (transposedOf v)
+-- n elements down the first column of a view
+pub record Reaching (v : View) (n len : ℕ) : Type 0 where
+  pub run : Run n (v .rs)
+  pub below : v .start + (n - 1) * up (v .rs) < len
 
 -- a column of n elements that the quick tests pass
 pub record Column (v : View) (n len : ℕ) : Type 0 where
   pub rows-are : v .rows ≡ n
   pub one : v .cols ≡ 1
-  pub run : Run n (v .rs)
-  pub below : v .start + (n - 1) * up (v .rs) < len
+  pub reaching : Reaching v n len

@@ -1,11 +1,12 @@
-// Quick tests that pass calls as most are: views of at least one element, with small starts and with strides that are small and not negative.
+// Quick tests that pass calls as most are: views of at least one element, with small starts and with strides that are small and not negative,
+// and vectors that stand as columns.
 // A call that they do not pass is judged in full.
 ghost use mathlib.Core.Path.{_≡_};
 ghost use mathlib.Core.Bool.{true, false};
 ghost use Prim.Native.Nat.{_+_, _-_, _*_, _<_, _^_};
 ghost use Rattle.view.specs.Refusals.{overlaps};
 ghost use Rattle.view.specs.Steps.{up, down, meets, Accepted};
-ghost use Rattle.judge.specs.Tests.{uprightOf, Count, Run, Plain, Column};
+ghost use Rattle.judge.specs.Tests.{Count, Run, Plain, Reaching};
 ghost use Rattle.view.specs.Checks as specs;
 use crate::shapes;
 use refusal::LIMIT;
@@ -13,9 +14,6 @@ use view::Answer;
 use view::Side;
 use view::Trans;
 use view::View;
-use view::op_cols;
-use view::op_rows;
-use view::transposed;
 
 // Whether n is at least 1 and within the limit.
 fn few(n: usize) -> bool
@@ -110,45 +108,45 @@ fn written(v: View, len: usize) -> bool
     }
 }
 
-// A column as it is, and a row as a column.
-fn upright(v: View) -> View
-    ensures { λ r. ⌜ r ≡ uprightOf v ⌝ }
-{
-    if v.cols == 1 { v } else { transposed(v) }
-}
-
-// Whether a view is a column of n elements, in bounds.
-fn column(v: View, n: usize, len: usize) -> bool
+// Whether n elements down a view's first column are in bounds.
+fn reaches(v: View, n: usize, len: usize) -> bool
     requires { ⌜ Count n ⌝ }
-    ensures { λ r. ⌜ (r ≡ true → Column v n len) ⌝ }
+    ensures { λ r. ⌜ (r ≡ true → Reaching v n len) ⌝ }
 {
-    if v.rows == n {
-        if v.cols == 1 {
-            if near(v.start) {
-                if short(v.rs) {
-                    return v.start + reach(n, v.rs) < len;
-                }
-            }
+    if near(v.start) {
+        if short(v.rs) {
+            return v.start + reach(n, v.rs) < len;
         }
     }
     false
 }
 
-// Whether a vector of length n is in bounds.
+// Whether a vector of length n, which is to stand as a column, is in bounds.
 fn vector(v: View, n: usize, len: usize) -> bool
     requires { ⌜ Count n ⌝ }
     ensures { λ r. ⌜ (r ≡ true → Accepted v len × (specs.vectorOf v n ≡ true)) ⌝ }
 {
-    column(upright(v), n, len)
+    if reaches(v, n, len) {
+        if v.rows == n {
+            return v.cols == 1;
+        }
+    }
+    false
 }
 
-// Whether a vector that is written is in bounds, each element on a place of its own.
+// The same of a vector that is written, each element on a place of its own.
 fn vector_target(v: View, n: usize, len: usize) -> bool
     requires { ⌜ Count n ⌝ }
     ensures { λ r. ⌜ (r ≡ true → Accepted v len × (specs.vectorOf v n ≡ true) × (overlaps v ≡ false)) ⌝ }
 {
-    let u = upright(v);
-    if u.rs == 0 { false } else { column(u, n, len) }
+    if v.rows == n {
+        if v.cols == 1 {
+            if reaches(v, n, len) {
+                return v.rs != 0;
+            }
+        }
+    }
+    false
 }
 
 // Whether a matrix is square.
@@ -158,13 +156,14 @@ fn square(a: View) -> bool
     if few(a.rows) { a.cols == a.rows } else { false }
 }
 
-pub fn quick_gemv(t: Trans, a: View, la: usize, x: View, lx: usize, y: View, ly: usize) -> bool
-    ensures { λ r. ⌜ (r ≡ true → specs.gemvCheck t a la x lx y ly ≡ Answer.Done) ⌝ }
+// gemv, of the view of op(A).
+pub fn quick_gemv(a: View, la: usize, x: View, lx: usize, y: View, ly: usize) -> bool
+    ensures { λ r. ⌜ (r ≡ true → specs.gemvCheck Trans.NoTrans a la x lx y ly ≡ Answer.Done) ⌝ }
 {
     if small(a) {
         if plain(a, la) {
-            if vector(x, op_cols(t, a), lx) {
-                return vector_target(y, op_rows(t, a), ly);
+            if vector(x, a.cols, lx) {
+                return vector_target(y, a.rows, ly);
             }
         }
     }

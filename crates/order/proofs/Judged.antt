@@ -6,9 +6,8 @@ use Rattle.view.specs.declared.View.{View}
 use Rattle.view.specs.declared.Answer.{Answer}
 use Rattle.view.specs.declared.Side.{Side}
 use Rattle.view.specs.declared.Side.the-variants.{Left}
-use Rattle.view.specs.Refusals.{isVector}
 use Rattle.view.specs.Judge.{isDone}
-use Rattle.view.specs.Checks.{trsvCheck, trsmCheck}
+use Rattle.view.specs.Checks.{vectorOf, trsvCheck, trsmCheck}
 use Rattle.view.specs.JudgeLaws.{judge-passed, trmv-sizes, trmm-sizes}
 use Rattle.view.specs.Vector.{columnOf}
 use Rattle.view.specs.VectorLaws.{column-accepted, column-no-overlap}
@@ -19,8 +18,8 @@ use Rattle.blas.proofs.OutcomeLaws.{check-done}
 use Rattle.order.specs.Ready.{Sided}
 
 module _ (a x : View) (la lx : ℕ) (r : Answer) (flag : Bool) (answered : r ≡ trsvCheck a la x lx) (told : flag ≡ isDone r) (passed : flag ≡ true) where
-  pub vector-passed : isVector x ≡ true
-  vector-passed = trmv-sizes a x (judge-passed _ _ _ (check-done _ r flag answered told passed) .shape) .1 .vector
+  pub vector-passed : vectorOf x (a .rows) ≡ true
+  vector-passed = trmv-sizes a x (judge-passed _ _ _ (check-done _ r flag answered told passed) .shape) .1 .shape
 
   pub vector-runs : (v : View) → v ≡ columnOf x → Sided Left a la v lx
   vector-runs v columned =
@@ -33,7 +32,7 @@ module _ (a x : View) (la lx : ℕ) (r : Answer) (flag : Bool) (answered : r ≡
         rows = sym (s .1 .length);
         cols = s .0 ∙ sym (s .1 .length);
         distinct = record {
-          only = no-overlap→index-inj (columnOf x) lx (column-accepted x lx (s .1 .vector) (h .each .1 .0) .fits) (column-no-overlap x vector-passed (h .distinct));
+          only = no-overlap→index-inj (columnOf x) lx (column-accepted x lx (s .1 .vector) (h .each .1 .0) .fits) (column-no-overlap x (s .1 .vector) (h .distinct));
         };
       })
 

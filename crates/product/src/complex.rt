@@ -54,12 +54,14 @@ use view::Trans;
 use view::UpLo;
 use view::View;
 use view::cols;
+use view::conjugates;
 use view::end_col;
 use view::first_col;
 use view::op_view;
 use view::passed;
 use view::place;
 use view::rows;
+use view::upright;
 
 // Element (i, j) of a view, conjugated or not.
 fn at(conjugated: bool, s: &[f64], v: View, i: usize, j: usize) -> Complex
@@ -313,7 +315,10 @@ pub fn gemv(
 ) -> Answer
     ensures { λ r. ⌜ Gives complex (Gemv.gemv complex trans alpha (lent complex (now (a .entry)) va) (lent complex (now (x .entry)) vx) beta (lent complex (now (y .entry)) vy)) r (now (y .exit)) ⌝ }
 {
-    let quick = quick_gemv(trans, va, a.len() / 2, vx, x.len() / 2, vy, y.len() / 2);
+    let left = op_view(trans, va);
+    let stood = upright(vx);
+    let target = upright(vy);
+    let quick = quick_gemv(left, a.len() / 2, stood, x.len() / 2, target, y.len() / 2);
     let answer = check_gemv(
         quick,
         trans,
@@ -326,7 +331,7 @@ pub fn gemv(
     );
     if passed(answer) {
         run_column(
-            gemv_plan(trans, va, vx, vy),
+            gemv_plan(conjugates(trans), left, vx, vy),
             a,
             x,
             Multiplier::Number(alpha),
@@ -351,7 +356,9 @@ pub fn hemv(
 ) -> Answer
     ensures { λ r. ⌜ Gives complex (Hemv.hemv complex uplo alpha (lent complex (now (a .entry)) va) (lent complex (now (x .entry)) vx) beta (lent complex (now (y .entry)) vy)) r (now (y .exit)) ⌝ }
 {
-    let quick = quick_hemv(va, a.len() / 2, vx, x.len() / 2, vy, y.len() / 2);
+    let stood = upright(vx);
+    let target = upright(vy);
+    let quick = quick_hemv(va, a.len() / 2, stood, x.len() / 2, target, y.len() / 2);
     let answer = check_hemv(quick, va, a.len() / 2, vx, x.len() / 2, vy, y.len() / 2);
     if passed(answer) {
         run_left_column(

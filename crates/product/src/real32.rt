@@ -55,12 +55,14 @@ use view::Trans;
 use view::UpLo;
 use view::View;
 use view::cols;
+use view::conjugates;
 use view::end_col;
 use view::first_col;
 use view::op_view;
 use view::passed;
 use view::place;
 use view::rows;
+use view::upright;
 
 // The sum with the terms of element (i, j) from `from` to before `end` added.
 fn add_run(
@@ -113,16 +115,59 @@ fn entry(
     settle(plan.target, alpha, beta, c, i, j, sum);
 }
 
+// Elements (i, j) and (k, l) of the target, their sums side by side.
+fn two_entries(
+    plan: Plan,
+    a: &[f32],
+    b: &[f32],
+    alpha: Real32,
+    beta: Beta32,
+    c: &mut [f32],
+    i: usize,
+    j: usize,
+    k: usize,
+    l: usize,
+)
+    requires { ⌜ Ready plan (real32 .count (now a)) (real32 .count (now b)) (real32 .count (now c)) × (i < plan .target .rows) × (j < plan .target .cols) × (k < plan .target .rows) × (l < plan .target .cols) ⌝ }
+    ensures { λ _. ⌜ now (c .exit) ≡ replaced real32 (plan .target) k l (planChange real32 plan (scaleBy32 beta) (real32 .mul (alpha .0)) (now (a .entry)) (now (b .entry)) k l) (replaced real32 (plan .target) i j (planChange real32 plan (scaleBy32 beta) (real32 .mul (alpha .0)) (now (a .entry)) (now (b .entry)) i j) (now (c .entry))) ⌝ }
+{
+    let n = plan.terms;
+    let mut first = Real32::ZERO;
+    let mut second = Real32::ZERO;
+    let mut p = 0;
+    while p < n {
+        first = first.add(elem32(a, plan.factors.left, i, p).mul(elem32(
+            b,
+            plan.factors.right,
+            p,
+            j,
+        )));
+        second = second.add(elem32(a, plan.factors.left, k, p).mul(elem32(
+            b,
+            plan.factors.right,
+            p,
+            l,
+        )));
+        p += 1;
+    }
+    settle(plan.target, alpha, beta, c, i, j, first);
+    settle(plan.target, alpha, beta, c, k, l, second);
+}
+
 // Row i of the target.
 fn row(plan: Plan, a: &[f32], b: &[f32], alpha: Real32, beta: Beta32, c: &mut [f32], i: usize)
     requires { ⌜ Ready plan (real32 .count (now a)) (real32 .count (now b)) (real32 .count (now c)) × (i < plan .target .rows) ⌝ }
     ensures { λ _. ⌜ now (c .exit) ≡ rowOf real32 (plan .target) everywhere (planChange real32 plan (scaleBy32 beta) (real32 .mul (alpha .0)) (now (a .entry)) (now (b .entry))) i (plan .target .cols) (now (c .entry)) ⌝ }
 {
     let n = cols(plan.target);
+    let pairs = n / 2;
     let mut j = 0;
-    while j < n {
-        entry(plan, a, b, alpha, beta, c, i, j);
+    while j < pairs {
+        two_entries(plan, a, b, alpha, beta, c, i, 2 * j, i, 2 * j + 1);
         j += 1;
+    }
+    if 2 * j < n {
+        entry(plan, a, b, alpha, beta, c, i, 2 * j);
     }
 }
 
@@ -145,10 +190,14 @@ fn run_column(plan: Plan, a: &[f32], b: &[f32], alpha: Real32, beta: Beta32, c: 
     ensures { λ _. ⌜ now (c .exit) ≡ update real32 (plan .target) everywhere (planChange real32 plan (scaleBy32 beta) (real32 .mul (alpha .0)) (now (a .entry)) (now (b .entry))) (now (c .entry)) ⌝ }
 {
     let m = rows(plan.target);
+    let pairs = m / 2;
     let mut i = 0;
-    while i < m {
-        entry(plan, a, b, alpha, beta, c, i, 0);
+    while i < pairs {
+        two_entries(plan, a, b, alpha, beta, c, 2 * i, 0, 2 * i + 1, 0);
         i += 1;
+    }
+    if 2 * i < m {
+        entry(plan, a, b, alpha, beta, c, 2 * i, 0);
     }
 }
 
@@ -253,11 +302,14 @@ pub fn gemv(
 ) -> Answer
     ensures { λ r. ⌜ Gives real32 (Gemv.gemv real32 trans (alpha .0) (lent real32 (now (a .entry)) va) (lent real32 (now (x .entry)) vx) (beta .0) (lent real32 (now (y .entry)) vy)) r (now (y .exit)) ⌝ }
 {
-    let quick = quick_gemv(trans, va, a.len(), vx, x.len(), vy, y.len());
+    let left = op_view(trans, va);
+    let stood = upright(vx);
+    let target = upright(vy);
+    let quick = quick_gemv(left, a.len(), stood, x.len(), target, y.len());
     let answer = check_gemv(quick, trans, va, a.len(), vx, x.len(), vy, y.len());
     if passed(answer) {
         run_column(
-            gemv_plan(trans, va, vx, vy),
+            gemv_plan(conjugates(trans), left, vx, vy),
             a,
             x,
             alpha,
@@ -282,7 +334,9 @@ pub fn hemv(
 ) -> Answer
     ensures { λ r. ⌜ Gives real32 (Hemv.hemv real32 uplo (alpha .0) (lent real32 (now (a .entry)) va) (lent real32 (now (x .entry)) vx) (beta .0) (lent real32 (now (y .entry)) vy)) r (now (y .exit)) ⌝ }
 {
-    let quick = quick_hemv(va, a.len(), vx, x.len(), vy, y.len());
+    let stood = upright(vx);
+    let target = upright(vy);
+    let quick = quick_hemv(va, a.len(), stood, x.len(), target, y.len());
     let answer = check_hemv(quick, va, a.len(), vx, x.len(), vy, y.len());
     if passed(answer) {
         run_left_column(

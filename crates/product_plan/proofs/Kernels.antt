@@ -9,15 +9,15 @@ use Rattle.number.specs.Scaling.{scaled, scaledReal}
 use Rattle.view.specs.declared.View.{View}
 use Rattle.view.specs.declared.Answer.{Answer}
 use Rattle.view.specs.declared.Trans.{Trans}
-use Rattle.view.specs.declared.Trans.the-variants.{NoTrans}
+use Rattle.view.specs.declared.Trans.the-variants.{NoTrans, Trans as Transposed, ConjTrans}
 use Rattle.view.specs.declared.Side.{Side}
 use Rattle.view.specs.declared.Side.the-variants.{Left, Right}
 use Rattle.view.specs.declared.UpLo.{UpLo}
-use Rattle.view.specs.Refusals.{isVector}
 use Rattle.view.specs.Judge.{isDone}
 use Rattle.view.specs.Triangle.{inTriangle}
+use Rattle.view.specs.Place.{opViewOf, isConj}
 use Rattle.view.specs.Vector.{columnOf}
-use Rattle.view.specs.Checks.{opCols, gemvCheck, hemvCheck, gemmCheck, symmCheck, hemmCheck, syrkCheck, herkCheck}
+use Rattle.view.specs.Checks.{opRows, opCols, vectorOf, gemvCheck, hemvCheck, gemmCheck, symmCheck, hemmCheck, syrkCheck, herkCheck}
 use Rattle.view.specs.JudgeLaws.{judge-passed, gemv-sizes, hemv-sizes}
 use Rattle.slab.specs.Elem.{Lent, elem}
 use Rattle.slab.specs.Update.{Mask, everywhere, update}
@@ -34,7 +34,7 @@ use Rattle.blas.proofs.OutcomeLaws.{check-done, gives-work, gives-refusal}
 use Rattle.product_plan.specs.declared.plan.Plan.{Plan}
 use Rattle.product_plan.specs.declared.plan.Folded.{Folded}
 use Rattle.product_plan.specs.Plan.{planChange, foldedChange, Ready, FoldedReady, ByRow}
-use Rattle.product_plan.specs.Plans.{opPlan, gemmPlan, gemvPlan, leftPlan, rightPlan, hemvPlan, syrkPlan, herkPlan, sidedWork, ReadySided}
+use Rattle.product_plan.specs.Plans.{opPlan, gemmPlan, gemvPlan, columnPlan, leftPlan, rightPlan, hemvPlan, syrkPlan, herkPlan, sidedWork, ReadySided}
 use Rattle.product_plan.proofs.Products.{named, op-product, left-product, right-product}
 use Rattle.product_plan.proofs.Ready.{gemm-ready, gemv-ready, hemv-ready, sided-ready, syrk-ready, herk-ready, target-square}
 
@@ -85,13 +85,28 @@ module _ (K : Kind) (ta tb : Trans) (alpha : K .Elem) (a b : Lent K) (beta : K .
 pub gemv-plain : (t : Trans) (a x y : View) (plan : Plan) → plan ≡ gemvPlan t a x y → plan .factors .«right_conj» ≡ false
 gemv-plain t a x y plan planned = ap (λ (q : Plan). q .factors .«right_conj») planned
 
+-- op(A)'s view has the sizes of op(A)
+turned-vectors : (t : Trans) (a x y : View) → vectorOf x (opCols t a) ≡ true → vectorOf y (opRows t a) ≡ true
+    → (vectorOf x (opViewOf t a .cols) ≡ true) × (vectorOf y (opViewOf t a .rows) ≡ true)
+turned-vectors NoTrans a x y p q = (p, q)
+turned-vectors Transposed a x y p q = (p, q)
+turned-vectors ConjTrans a x y p q = (p, q)
+
+pub gemv-planned : (t : Trans) (a x y left : View) (conj : Bool) (plan : Plan) → left ≡ opViewOf t a → conj ≡ isConj t → plan ≡ columnPlan conj left x y → plan ≡ gemvPlan t a x y
+gemv-planned t a x y left conj plan e d p = p ∙ (λ i. columnPlan (d i) (e i) x y) ∙ same t
+  where
+    same : (t : Trans) → columnPlan (isConj t) (opViewOf t a) x y ≡ gemvPlan t a x y
+    same NoTrans = refl
+    same Transposed = refl
+    same ConjTrans = refl
+
 module _ (t : Trans) (a x y : View) (la lx ly : ℕ) (r : Answer) (flag : Bool)
     (answered : r ≡ gemvCheck t a la x lx y ly) (told : flag ≡ isDone r) (passed : flag ≡ true) where
   -- both vectors are vectors
-  pub gemv-vectors : (isVector x ≡ true) × (isVector y ≡ true)
-  gemv-vectors =
+  pub gemv-vectors : (left : View) → left ≡ opViewOf t a → (vectorOf x (left .cols) ≡ true) × (vectorOf y (left .rows) ≡ true)
+  gemv-vectors left turned =
       let s = gemv-sizes t a x y (judge-passed _ _ _ (check-done _ r flag answered told passed) .shape) in
-      (s .0 .vector, s .1 .vector)
+      rw turned (turned-vectors t a x y (s .0 .shape) (s .1 .shape))
 
   pub gemv-runs : (plan : Plan) → plan ≡ gemvPlan t a x y → Ready plan la lx ly × (plan .target .cols ≡ 1)
   gemv-runs plan planned = rw planned (gemv-ready t a x y la lx ly (judge-passed _ _ _ (check-done _ r flag answered told passed)), refl)
@@ -116,10 +131,10 @@ module _ (K : Kind) (t : Trans) (alpha : K .Elem) (a x : Lent K) (beta : K .Elem
 module _ (uplo : UpLo) (a x y : View) (la lx ly : ℕ) (r : Answer) (flag : Bool)
     (answered : r ≡ hemvCheck a la x lx y ly) (told : flag ≡ isDone r) (passed : flag ≡ true) where
   -- both vectors are vectors
-  pub hemv-vectors : (isVector x ≡ true) × (isVector y ≡ true)
+  pub hemv-vectors : (vectorOf x (a .rows) ≡ true) × (vectorOf y (a .rows) ≡ true)
   hemv-vectors =
       let s = hemv-sizes a x y (judge-passed _ _ _ (check-done _ r flag answered told passed) .shape) in
-      (s .1 .vector, s .2 .vector)
+      (s .1 .shape, s .2 .shape)
 
   pub hemv-runs : (plan : Folded) → plan ≡ hemvPlan uplo a x y → FoldedReady plan la lx ly × ByRow plan × (plan .target .cols ≡ 1)
   hemv-runs plan planned =

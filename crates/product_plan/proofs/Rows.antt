@@ -1,5 +1,5 @@
 -- A loop over the target's elements is the fold over them: its rows, the columns of a row that are written, and a target of one column.
-use Prim.Native.Nat.{ℕ, _+_, _≤_, _<_}
+use Prim.Native.Nat.{ℕ, _+_, _*_, _≤_, _<_}
 use mathlib.Core.Bool.{Bool, true, false}
 use mathlib.Core.List.{List}
 use mathlib.Core.Path.{_≡_, refl, sym, ap, subst, _∙_}
@@ -12,7 +12,7 @@ use Rattle.view.specs.declared.UpLo.{UpLo}
 use Rattle.view.specs.declared.UpLo.the-variants.{Upper, Lower}
 use Rattle.view.specs.Place.{index}
 use Rattle.view.specs.Triangle.{inTriangle, firstCol, endCol}
-use Rattle.slab.specs.Update.{Mask, Change, everywhere, row, rows}
+use Rattle.slab.specs.Update.{Mask, Change, everywhere, row, rows, update}
 use Rattle.slab.proofs.UpdateLaws.{row-both, row-start}
 use Rattle.slab.proofs.LoopLaws.{rows-next, row-skip, put-next, span}
 use Rattle.product_plan.specs.Plan.{replaced, Columns}
@@ -31,6 +31,13 @@ put-replaced K v i j f h sum c after k old s w new placed read scaled weighed ad
 pub entry-put : (K : Kind) (v : View) (i j : ℕ) (f h : K .Elem → K .Elem) (z z′ : K .Elem) (c after : List (K .Cell)) → z ≡ z′
     → after ≡ replaced K v i j (λ x. K .add (f x) (h z)) c → after ≡ replaced K v i j (λ x. K .add (f x) (h z′)) c
 entry-put K v i j f h z z′ c after e p = p ∙ ap (λ y. replaced K v i j (λ x. K .add (f x) (h y)) c) e
+
+-- two elements, one after the other, by the sums y and z
+pub two-put : (K : Kind) (v : View) (i j k l : ℕ) (f h : K .Elem → K .Elem) (y y′ z z′ : K .Elem) (c between after : List (K .Cell)) → y ≡ y′ → z ≡ z′
+    → between ≡ replaced K v i j (λ x. K .add (f x) (h y)) c → after ≡ replaced K v k l (λ x. K .add (f x) (h z)) between
+    → after ≡ replaced K v k l (λ x. K .add (f x) (h z′)) (replaced K v i j (λ x. K .add (f x) (h y′)) c)
+two-put K v i j k l f h y y′ z z′ c between after ey ez p q =
+    entry-put K v k l f h z z′ between after ez q ∙ ap (λ s. replaced K v k l (λ x. K .add (f x) (h z′)) s) (entry-put K v i j f h y y′ c between ey p)
 
 -- ---- a row from column a on, as a loop meets it: it ends where the written columns do
 
@@ -66,6 +73,38 @@ pub column-next : (K : Kind) (v : View) (u : Change K) (i : ℕ) (s₀ s t : Lis
 column-next K v u i s₀ s t e p q =
     rows-next K v everywhere u s₀ s i t p
     (subst (λ (n : ℕ). t ≡ row K v everywhere u i n s) (sym e) (put-next K v everywhere u i 0 s s t refl (sym (row-start K v everywhere u s i)) q))
+
+-- ---- elements taken in pairs, and the last one by itself where their number is odd
+
+module _ (K : Kind) (v : View) (u : Change K) where
+  -- a pair more of row i
+  pub row-pair : (i j : ℕ) (s₀ s t : List (K .Cell)) → s ≡ row K v everywhere u i (2 * j) s₀
+      → t ≡ replaced K v i (2 * j + 1) (u i (2 * j + 1)) (replaced K v i (2 * j) (u i (2 * j)) s) → t ≡ row K v everywhere u i (2 * (j + 1)) s₀
+  row-pair i j s₀ s t p q =
+      let e : 2 * j + 1 + 1 ≡ 2 * (j + 1) = omega arith in
+      subst
+      (λ (n : ℕ). t ≡ row K v everywhere u i n s₀)
+      e
+      (put-next K v everywhere u i (2 * j + 1) s₀ _ t refl (put-next K v everywhere u i (2 * j) s₀ s _ refl p refl) q)
+
+  -- its last element after h pairs
+  pub row-odd : (i j : ℕ) (s₀ s t : List (K .Cell)) → 2 * j + 1 ≡ v .cols → s ≡ row K v everywhere u i (2 * j) s₀
+      → t ≡ replaced K v i (2 * j) (u i (2 * j)) s → t ≡ row K v everywhere u i (v .cols) s₀
+  row-odd i j s₀ s t en p q = subst (λ (n : ℕ). t ≡ row K v everywhere u i n s₀) en (put-next K v everywhere u i (2 * j) s₀ s t refl p q)
+
+  -- the same of a target of one column
+  pub column-pair : (i : ℕ) (s₀ s t : List (K .Cell)) → v .cols ≡ 1 → s ≡ rows K v everywhere u (2 * i) s₀
+      → t ≡ replaced K v (2 * i + 1) 0 (u (2 * i + 1) 0) (replaced K v (2 * i) 0 (u (2 * i) 0) s) → t ≡ rows K v everywhere u (2 * (i + 1)) s₀
+  column-pair i s₀ s t c p q =
+      let e : 2 * i + 1 + 1 ≡ 2 * (i + 1) = omega arith in
+      subst
+      (λ (n : ℕ). t ≡ rows K v everywhere u n s₀)
+      e
+      (column-next K v u (2 * i + 1) s₀ _ t c (column-next K v u (2 * i) s₀ s _ c p refl) q)
+
+  pub column-odd : (i : ℕ) (s₀ s t : List (K .Cell)) → v .cols ≡ 1 → 2 * i + 1 ≡ v .rows → s ≡ rows K v everywhere u (2 * i) s₀
+      → t ≡ replaced K v (2 * i) 0 (u (2 * i) 0) s → t ≡ update K v everywhere u s₀
+  column-odd i s₀ s t c em p q = subst (λ (n : ℕ). t ≡ rows K v everywhere u n s₀) em (column-next K v u (2 * i) s₀ s t c p q)
 
 -- ---- the columns in the named triangle
 

@@ -11,6 +11,7 @@ use borrow.Author.Tests.{lt-ltb, le-ltb}
 use Rattle.number.specs.Kind.{Kind, real}
 use Rattle.slab.specs.Elem.{elem}
 use Rattle.blas.specs.Matrix.{sum}
+use Rattle.blas.proofs.SumLaws.{sum-next}
 use Rattle.product_plan.specs.declared.plan.Factors.{Factors}
 use Rattle.product_plan.specs.declared.plan.Folded.{Folded}
 use Rattle.slab.proofs.RunLaws.{plain-real}
@@ -83,6 +84,15 @@ real-next r f a b i j x from p acc u v m next h e eu ev em en =
     term-next (real r) f a b i j x from p acc u v m next h e (eu ∙ plain-real r (f .«left_conj») a (f .left) i p)
     (ev ∙ plain-real r (f .«right_conj») b (f .right) p j)
     em
+    en
+
+-- the same of a sum of real numbers from its first term on
+pub real-sum-next : (r : Format) (f : Factors) (a b : List Float) (i j p : ℕ) (acc u v m next : Float) → acc ≡ sum (real r) p (term (real r) f a b i j)
+    → u ≡ elem (real r) a (f .left) i p → v ≡ elem (real r) b (f .right) p j → m ≡ real r .mul u v → next ≡ real r .add acc m
+    → next ≡ sum (real r) (p + 1) (term (real r) f a b i j)
+real-sum-next r f a b i j p acc u v m next e eu ev em en =
+    sum-next (real r) (term (real r) f a b i j) p acc m next e
+    (em ∙ (λ t. real r .mul ((eu ∙ plain-real r (f .«left_conj») a (f .left) i p) t) ((ev ∙ plain-real r (f .«right_conj») b (f .right) p j) t)))
     en
 
 -- ---- the terms before a turn and those after it

@@ -38,6 +38,10 @@ gemmPlan ta tb a b c = opPlan ta tb a b (opCols ta a) c
 abbrev pub gemvPlan : Trans → View → View → View → Plan
 gemvPlan t a x y = gemmPlan t NoTrans a (columnOf x) (columnOf y)
 
+-- the same, of op(A)'s view and whether op conjugates
+abbrev pub columnPlan : Bool → View → View → View → Plan
+columnPlan conj a x y = record { factors = record { left = a; «left_conj» = conj; right = columnOf x; «right_conj» = false }; terms = a .cols; target = columnOf y }
+
 abbrev pub syrkPlan : Trans → View → View → Plan
 syrkPlan t a c = opPlan (syrkLeft t) (syrkRight t) a a (opCols t a) c
 

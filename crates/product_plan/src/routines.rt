@@ -2,10 +2,10 @@
 
 ghost use mathlib.Core.Path.{_≡_};
 ghost use mathlib.Core.Bool.{true};
-ghost use Rattle.view.specs.Refusals.{isVector};
+ghost use Rattle.view.specs.Checks.{vectorOf};
 ghost use Rattle.blas.specs.Syrk.{syrkLeft, syrkRight};
 ghost use Rattle.blas.specs.Herk.{herkLeft, herkRight};
-ghost use Rattle.product_plan.specs.Plans.{opFactors, opPlan, gemmPlan, gemvPlan, hemvPlan, leftFactors, rightFactors, isUpper, rowTurn, colTurn, leftPlan, rightPlan, syrkPlan, herkPlan};
+ghost use Rattle.product_plan.specs.Plans.{opFactors, opPlan, gemmPlan, columnPlan, hemvPlan, leftFactors, rightFactors, isUpper, rowTurn, colTurn, leftPlan, rightPlan, syrkPlan, herkPlan};
 use crate::plan::Factors;
 use crate::plan::Folded;
 use crate::plan::Plan;
@@ -54,13 +54,23 @@ pub fn gemm_plan(ta: Trans, tb: Trans, a: View, b: View, c: View) -> Plan
     op_plan(ta, tb, a, b, terms, c)
 }
 
-pub fn gemv_plan(t: Trans, a: View, x: View, y: View) -> Plan
-    requires { ⌜ (isVector x ≡ true) × (isVector y ≡ true) ⌝ }
-    ensures { λ r. ⌜ r ≡ gemvPlan t a x y ⌝ }
+// Of op(A)'s view, and whether op conjugates.
+pub fn gemv_plan(left_conj: bool, a: View, x: View, y: View) -> Plan
+    requires { ⌜ (vectorOf x (a .cols) ≡ true) × (vectorOf y (a .rows) ≡ true) ⌝ }
+    ensures { λ r. ⌜ r ≡ columnPlan «left_conj» a x y ⌝ }
 {
-    let b = column(x);
-    let c = column(y);
-    gemm_plan(t, Trans::NoTrans, a, b, c)
+    let b = column(x, a.cols);
+    let c = column(y, a.rows);
+    Plan {
+        factors: Factors {
+            left: a,
+            left_conj,
+            right: b,
+            right_conj: false,
+        },
+        terms: a.cols,
+        target: c,
+    }
 }
 
 // A, or its mirror image, on the left of B.
@@ -169,13 +179,13 @@ pub fn right_plan(conj: bool, uplo: UpLo, a: View, b: View, terms: usize, c: Vie
 }
 
 pub fn hemv_plan(uplo: UpLo, a: View, x: View, y: View) -> Folded
-    requires { ⌜ (isVector x ≡ true) × (isVector y ≡ true) ⌝ }
+    requires { ⌜ (vectorOf x (a .rows) ≡ true) × (vectorOf y (a .rows) ≡ true) ⌝ }
     ensures { λ r. ⌜ r ≡ hemvPlan uplo a x y ⌝ }
 {
-    let b = column(x);
-    let c = column(y);
-    let terms = rows(a);
-    left_plan(true, uplo, a, b, terms, c)
+    let n = rows(a);
+    let b = column(x, n);
+    let c = column(y, n);
+    left_plan(true, uplo, a, b, n, c)
 }
 
 fn syrk_left(t: Trans) -> Trans

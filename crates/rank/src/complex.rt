@@ -40,6 +40,7 @@ use view::first_col;
 use view::passed;
 use view::place;
 use view::rows;
+use view::upright;
 
 // Element (i, j) of a matrix, conjugated where asked.
 fn read(conj: bool, s: &[f64], v: View, i: usize, j: usize) -> Complex
@@ -338,10 +339,11 @@ fn her2k_rows(alpha: Complex, beta: BetaComplex, plan: Plan, a: &[f64], b: &[f64
 pub fn her(uplo: UpLo, alpha: f64, x: &[f64], vx: View, a: &mut [f64], va: View) -> Answer
     ensures { λ r. ⌜ Gives complex (Her.her complex uplo alpha (lent complex (now (x .entry)) vx) (lent complex (now (a .entry)) va)) r (now (a .exit)) ⌝ }
 {
-    let quick = quick_her(vx, x.len() / 2, va, a.len() / 2);
+    let stood = upright(vx);
+    let quick = quick_her(stood, x.len() / 2, va, a.len() / 2);
     let answer = check_her(quick, vx, x.len() / 2, va, a.len() / 2);
     if passed(answer) {
-        her_rows(uplo, alpha, x, column(vx), a, va);
+        her_rows(uplo, alpha, x, column(vx, va.rows), a, va);
     }
     answer
 }
@@ -359,10 +361,21 @@ pub fn her2(
 ) -> Answer
     ensures { λ r. ⌜ Gives complex (Her2.her2 complex uplo alpha (lent complex (now (x .entry)) vx) (lent complex (now (y .entry)) vy) (lent complex (now (a .entry)) va)) r (now (a .exit)) ⌝ }
 {
-    let quick = quick_her2(vx, x.len() / 2, vy, y.len() / 2, va, a.len() / 2);
+    let first = upright(vx);
+    let second = upright(vy);
+    let quick = quick_her2(first, x.len() / 2, second, y.len() / 2, va, a.len() / 2);
     let answer = check_her2(quick, vx, x.len() / 2, vy, y.len() / 2, va, a.len() / 2);
     if passed(answer) {
-        her2_rows(uplo, alpha, x, column(vx), y, column(vy), a, va);
+        her2_rows(
+            uplo,
+            alpha,
+            x,
+            column(vx, va.rows),
+            y,
+            column(vy, va.rows),
+            a,
+            va,
+        );
     }
     answer
 }

@@ -25,6 +25,7 @@ use number::Beta32;
 use number::Real32;
 use rank_plan::Plan;
 use rank_plan::her2k_plan;
+use rank_plan::step_of;
 use rank_plan::syr2k_plan;
 use slab::elem32;
 use slab::get32;
@@ -40,6 +41,7 @@ use view::first_col;
 use view::passed;
 use view::place;
 use view::rows;
+use view::upright;
 
 // Element (i, j) of a matrix, conjugated where asked.
 fn read(conj: bool, s: &[f32], v: View, i: usize, j: usize) -> Real32
@@ -61,9 +63,18 @@ fn her_entry(w: Real32, x: &[f32], vx: View, a: &mut [f32], va: View, i: usize, 
     put32(a, k, old.add(term));
 }
 
-// Row i of her's target.
-fn her_row(uplo: UpLo, alpha: f32, x: &[f32], vx: View, a: &mut [f32], va: View, i: usize)
-    requires { ⌜ One vx (real32 .count (now x)) va (real32 .count (now a)) × (i < va .rows) ⌝ }
+// Row i of her's target, by a step of 1.
+fn her_row(
+    uplo: UpLo,
+    alpha: f32,
+    x: &[f32],
+    vx: View,
+    a: &mut [f32],
+    va: View,
+    i: usize,
+    step: usize,
+)
+    requires { ⌜ One vx (real32 .count (now x)) va (real32 .count (now a)) × (i < va .rows) × (step ≡ 1) ⌝ }
     ensures { λ _. ⌜ now (a .exit) ≡ row real32 va (inTriangle uplo) (Her.herChange real32 alpha (elem real32 (now (x .entry)) vx)) i (va .cols) (now (a .entry)) ⌝ }
 {
     let w = elem32(x, vx, i, 0).scale_real(alpha);
@@ -71,7 +82,7 @@ fn her_row(uplo: UpLo, alpha: f32, x: &[f32], vx: View, a: &mut [f32], va: View,
     let mut j = first_col(uplo, i);
     while j < end {
         her_entry(w, x, vx, a, va, i, j);
-        j += 1;
+        j += step;
     }
 }
 
@@ -80,10 +91,11 @@ fn her_rows(uplo: UpLo, alpha: f32, x: &[f32], vx: View, a: &mut [f32], va: View
     requires { ⌜ One vx (real32 .count (now x)) va (real32 .count (now a)) ⌝ }
     ensures { λ _. ⌜ now (a .exit) ≡ update real32 va (inTriangle uplo) (Her.herChange real32 alpha (elem real32 (now (x .entry)) vx)) (now (a .entry)) ⌝ }
 {
+    let step = step_of(va.rows);
     let m = rows(va);
     let mut i = 0;
     while i < m {
-        her_row(uplo, alpha, x, vx, a, va, i);
+        her_row(uplo, alpha, x, vx, a, va, i, step);
         i += 1;
     }
 }
@@ -322,10 +334,11 @@ fn her2k_rows(alpha: Real32, beta: Beta32, plan: Plan, a: &[f32], b: &[f32], c: 
 pub fn her(uplo: UpLo, alpha: f32, x: &[f32], vx: View, a: &mut [f32], va: View) -> Answer
     ensures { λ r. ⌜ Gives real32 (Her.her real32 uplo alpha (lent real32 (now (x .entry)) vx) (lent real32 (now (a .entry)) va)) r (now (a .exit)) ⌝ }
 {
-    let quick = quick_her(vx, x.len(), va, a.len());
+    let stood = upright(vx);
+    let quick = quick_her(stood, x.len(), va, a.len());
     let answer = check_her(quick, vx, x.len(), va, a.len());
     if passed(answer) {
-        her_rows(uplo, alpha, x, column(vx), a, va);
+        her_rows(uplo, alpha, x, column(vx, va.rows), a, va);
     }
     answer
 }
@@ -343,10 +356,21 @@ pub fn her2(
 ) -> Answer
     ensures { λ r. ⌜ Gives real32 (Her2.her2 real32 uplo (alpha .0) (lent real32 (now (x .entry)) vx) (lent real32 (now (y .entry)) vy) (lent real32 (now (a .entry)) va)) r (now (a .exit)) ⌝ }
 {
-    let quick = quick_her2(vx, x.len(), vy, y.len(), va, a.len());
+    let first = upright(vx);
+    let second = upright(vy);
+    let quick = quick_her2(first, x.len(), second, y.len(), va, a.len());
     let answer = check_her2(quick, vx, x.len(), vy, y.len(), va, a.len());
     if passed(answer) {
-        her2_rows(uplo, alpha, x, column(vx), y, column(vy), a, va);
+        her2_rows(
+            uplo,
+            alpha,
+            x,
+            column(vx, va.rows),
+            y,
+            column(vy, va.rows),
+            a,
+            va,
+        );
     }
     answer
 }

@@ -25,6 +25,7 @@ use number::Beta64;
 use number::Real64;
 use rank_plan::Plan;
 use rank_plan::her2k_plan;
+use rank_plan::step_of;
 use rank_plan::syr2k_plan;
 use slab::elem64;
 use slab::get64;
@@ -40,6 +41,7 @@ use view::first_col;
 use view::passed;
 use view::place;
 use view::rows;
+use view::upright;
 
 // Element (i, j) of a matrix, conjugated where asked.
 fn read(conj: bool, s: &[f64], v: View, i: usize, j: usize) -> Real64
@@ -61,9 +63,18 @@ fn her_entry(w: Real64, x: &[f64], vx: View, a: &mut [f64], va: View, i: usize, 
     put64(a, k, old.add(term));
 }
 
-// Row i of her's target.
-fn her_row(uplo: UpLo, alpha: f64, x: &[f64], vx: View, a: &mut [f64], va: View, i: usize)
-    requires { ⌜ One vx (real64 .count (now x)) va (real64 .count (now a)) × (i < va .rows) ⌝ }
+// Row i of her's target, by a step of 1.
+fn her_row(
+    uplo: UpLo,
+    alpha: f64,
+    x: &[f64],
+    vx: View,
+    a: &mut [f64],
+    va: View,
+    i: usize,
+    step: usize,
+)
+    requires { ⌜ One vx (real64 .count (now x)) va (real64 .count (now a)) × (i < va .rows) × (step ≡ 1) ⌝ }
     ensures { λ _. ⌜ now (a .exit) ≡ row real64 va (inTriangle uplo) (Her.herChange real64 alpha (elem real64 (now (x .entry)) vx)) i (va .cols) (now (a .entry)) ⌝ }
 {
     let w = elem64(x, vx, i, 0).scale_real(alpha);
@@ -71,7 +82,7 @@ fn her_row(uplo: UpLo, alpha: f64, x: &[f64], vx: View, a: &mut [f64], va: View,
     let mut j = first_col(uplo, i);
     while j < end {
         her_entry(w, x, vx, a, va, i, j);
-        j += 1;
+        j += step;
     }
 }
 
@@ -80,10 +91,11 @@ fn her_rows(uplo: UpLo, alpha: f64, x: &[f64], vx: View, a: &mut [f64], va: View
     requires { ⌜ One vx (real64 .count (now x)) va (real64 .count (now a)) ⌝ }
     ensures { λ _. ⌜ now (a .exit) ≡ update real64 va (inTriangle uplo) (Her.herChange real64 alpha (elem real64 (now (x .entry)) vx)) (now (a .entry)) ⌝ }
 {
+    let step = step_of(va.rows);
     let m = rows(va);
     let mut i = 0;
     while i < m {
-        her_row(uplo, alpha, x, vx, a, va, i);
+        her_row(uplo, alpha, x, vx, a, va, i, step);
         i += 1;
     }
 }
@@ -322,10 +334,11 @@ fn her2k_rows(alpha: Real64, beta: Beta64, plan: Plan, a: &[f64], b: &[f64], c: 
 pub fn her(uplo: UpLo, alpha: f64, x: &[f64], vx: View, a: &mut [f64], va: View) -> Answer
     ensures { λ r. ⌜ Gives real64 (Her.her real64 uplo alpha (lent real64 (now (x .entry)) vx) (lent real64 (now (a .entry)) va)) r (now (a .exit)) ⌝ }
 {
-    let quick = quick_her(vx, x.len(), va, a.len());
+    let stood = upright(vx);
+    let quick = quick_her(stood, x.len(), va, a.len());
     let answer = check_her(quick, vx, x.len(), va, a.len());
     if passed(answer) {
-        her_rows(uplo, alpha, x, column(vx), a, va);
+        her_rows(uplo, alpha, x, column(vx, va.rows), a, va);
     }
     answer
 }
@@ -343,10 +356,21 @@ pub fn her2(
 ) -> Answer
     ensures { λ r. ⌜ Gives real64 (Her2.her2 real64 uplo (alpha .0) (lent real64 (now (x .entry)) vx) (lent real64 (now (y .entry)) vy) (lent real64 (now (a .entry)) va)) r (now (a .exit)) ⌝ }
 {
-    let quick = quick_her2(vx, x.len(), vy, y.len(), va, a.len());
+    let first = upright(vx);
+    let second = upright(vy);
+    let quick = quick_her2(first, x.len(), second, y.len(), va, a.len());
     let answer = check_her2(quick, vx, x.len(), vy, y.len(), va, a.len());
     if passed(answer) {
-        her2_rows(uplo, alpha, x, column(vx), y, column(vy), a, va);
+        her2_rows(
+            uplo,
+            alpha,
+            x,
+            column(vx, va.rows),
+            y,
+            column(vy, va.rows),
+            a,
+            va,
+        );
     }
     answer
 }

@@ -10,9 +10,8 @@ use Rattle.view.specs.declared.View.{View}
 use Rattle.view.specs.declared.Answer.{Answer}
 use Rattle.view.specs.declared.Trans.{Trans}
 use Rattle.view.specs.declared.UpLo.{UpLo}
-use Rattle.view.specs.Refusals.{isVector}
 use Rattle.view.specs.Judge.{isDone}
-use Rattle.view.specs.Checks.{opCols, herCheck, her2Check, syr2kCheck, her2kCheck}
+use Rattle.view.specs.Checks.{vectorOf, opCols, herCheck, her2Check, syr2kCheck, her2kCheck}
 use Rattle.view.specs.JudgeLaws.{judge-passed, trmv-sizes, hemv-sizes}
 use Rattle.view.specs.Triangle.{inTriangle}
 use Rattle.view.specs.Vector.{columnOf}
@@ -37,8 +36,8 @@ use Rattle.rank_plan.proofs.Ready.{her-ready, her2-ready, paired-ready,
 
 module _ (x a : View) (lx la : ℕ) (r : Answer) (flag : Bool)
     (answered : r ≡ herCheck x lx a la) (told : flag ≡ isDone r) (passed : flag ≡ true) where
-  pub her-vector : isVector x ≡ true
-  her-vector = trmv-sizes a x (judge-passed _ _ _ (check-done _ r flag answered told passed) .shape) .1 .vector
+  pub her-vector : vectorOf x (a .rows) ≡ true
+  her-vector = trmv-sizes a x (judge-passed _ _ _ (check-done _ r flag answered told passed) .shape) .1 .shape
 
   pub her-runs : (column : View) → column ≡ columnOf x → One column lx a la
   her-runs column e = rw e (her-ready x a lx la (judge-passed _ _ _ (check-done _ r flag answered told passed)))
@@ -62,10 +61,10 @@ module _ (K : Kind) (uplo : UpLo) (alpha : K .Factor) (x a : Lent K)
 
 module _ (x y a : View) (lx ly la : ℕ) (r : Answer) (flag : Bool)
     (answered : r ≡ her2Check x lx y ly a la) (told : flag ≡ isDone r) (passed : flag ≡ true) where
-  pub her2-vectors : (isVector x ≡ true) × (isVector y ≡ true)
+  pub her2-vectors : (vectorOf x (a .rows) ≡ true) × (vectorOf y (a .rows) ≡ true)
   her2-vectors =
       let s = hemv-sizes a x y (judge-passed _ _ _ (check-done _ r flag answered told passed) .shape) in
-      (s .1 .vector, s .2 .vector)
+      (s .1 .shape, s .2 .shape)
 
   pub her2-runs : (xc yc : View) → xc ≡ columnOf x → yc ≡ columnOf y → Two xc lx yc ly a la
   her2-runs xc yc e f = rw (e, f) (her2-ready x y a lx ly la (judge-passed _ _ _ (check-done _ r flag answered told passed)))

@@ -50,6 +50,7 @@ use view::column;
 use view::passed;
 use view::place;
 use view::rows;
+use view::upright;
 
 // Element (i, j) of a view, conjugated or not.
 fn at(conjugated: bool, s: &[f64], v: View, i: usize, j: usize) -> Complex
@@ -463,10 +464,11 @@ pub fn trmv(
 ) -> Answer
     ensures { λ r. ⌜ Gives complex (Trmv.trmv complex uplo trans diag (lent complex (now (a .entry)) va) (lent complex (now (x .entry)) vx)) r (now (x .exit)) ⌝ }
 {
-    let quick = quick_trmv(va, a.len() / 2, vx, x.len() / 2);
+    let stood = upright(vx);
+    let quick = quick_trmv(va, a.len() / 2, stood, x.len() / 2);
     let answer = check_trmv(quick, va, a.len() / 2, vx, x.len() / 2);
     if passed(answer) {
-        let v = column(vx);
+        let v = column(vx, va.rows);
         let sys = system_of(Side::Left, uplo, trans, diag, va, v);
         multiply_vector(sys, a, x);
     }
@@ -508,10 +510,11 @@ pub fn trsv(
 ) -> Answer
     ensures { λ r. ⌜ Gives complex (Trsv.trsv complex uplo trans diag (lent complex (now (a .entry)) va) (lent complex (now (x .entry)) vx)) r (now (x .exit)) ⌝ }
 {
-    let quick = quick_trmv(va, a.len() / 2, vx, x.len() / 2);
+    let stood = upright(vx);
+    let quick = quick_trmv(va, a.len() / 2, stood, x.len() / 2);
     let answer = check_trsv(quick, va, a.len() / 2, vx, x.len() / 2);
     if passed(answer) {
-        let v = column(vx);
+        let v = column(vx, va.rows);
         let sys = system_of(Side::Left, uplo, trans, diag, va, v);
         return solve_vector(sys, a, x);
     }

@@ -50,6 +50,7 @@ use view::column;
 use view::passed;
 use view::place;
 use view::rows;
+use view::upright;
 
 // Element (i, j) of a view: a real number is its own conjugate.
 fn at(conjugated: bool, s: &[f64], v: View, i: usize, j: usize) -> Real64
@@ -59,7 +60,27 @@ fn at(conjugated: bool, s: &[f64], v: View, i: usize, j: usize) -> Real64
     elem64(s, v, i, j)
 }
 
-// x less n terms of row q by column l, from `from` on.
+// x less the term of row q by column l at p.
+fn less_term(
+    conjugated: bool,
+    a: &[f64],
+    va: View,
+    b: &[f64],
+    vb: View,
+    q: usize,
+    l: usize,
+    p: usize,
+    x: f64,
+) -> f64
+    requires { ⌜ Shows va (real64 .count (now a)) q p × Shows vb (real64 .count (now b)) p l ⌝ }
+    ensures { λ r. ⌜ r ≡ real64 .sub x (real64 .mul (plain real64 conjugated (now (a .entry)) va q p) (elem real64 (now (b .entry)) vb p l)) ⌝ }
+{
+    Real64(x)
+        .sub(at(conjugated, a, va, q, p).mul(elem64(b, vb, p, l)))
+        .0
+}
+
+// x less n such terms, from `from` on, two of them in a round.
 fn reduce(
     conjugated: bool,
     a: &[f64],
@@ -75,16 +96,20 @@ fn reduce(
     requires { ⌜ Spans va (real64 .count (now a)) vb (real64 .count (now b)) q l from n ⌝ }
     ensures { λ r. ⌜ r ≡ less real64 x (λ p. real64 .mul (plain real64 conjugated (now (a .entry)) va q p) (elem real64 (now (b .entry)) vb p l)) from n ⌝ }
 {
+    let pairs = n / 2;
     let mut rest = x;
     let mut i = 0;
-    while i < n {
-        let p = from + i;
-        rest = Real64(rest)
-            .sub(at(conjugated, a, va, q, p).mul(elem64(b, vb, p, l)))
-            .0;
+    while i < pairs {
+        let k = 2 * i;
+        rest = less_term(conjugated, a, va, b, vb, q, l, from + k, rest);
+        rest = less_term(conjugated, a, va, b, vb, q, l, from + (k + 1), rest);
         i += 1;
     }
-    rest
+    if 2 * i < n {
+        less_term(conjugated, a, va, b, vb, q, l, from + 2 * i, rest)
+    } else {
+        rest
+    }
 }
 
 // x and n such terms more.
@@ -107,6 +132,10 @@ fn add_run(
     let mut i = 0;
     while i < n {
         let p = from + i;
+        // Never so: p is a row of b. A loop with two ways out is not unrolled, which serves short sums.
+        if p == vb.rows {
+            return sum;
+        }
         sum = Real64(sum)
             .add(at(conjugated, a, va, q, p).mul(elem64(b, vb, p, l)))
             .0;
@@ -466,10 +495,11 @@ pub fn trmv(
 ) -> Answer
     ensures { λ r. ⌜ Gives real64 (Trmv.trmv real64 uplo trans diag (lent real64 (now (a .entry)) va) (lent real64 (now (x .entry)) vx)) r (now (x .exit)) ⌝ }
 {
-    let quick = quick_trmv(va, a.len(), vx, x.len());
+    let stood = upright(vx);
+    let quick = quick_trmv(va, a.len(), stood, x.len());
     let answer = check_trmv(quick, va, a.len(), vx, x.len());
     if passed(answer) {
-        let v = column(vx);
+        let v = column(vx, va.rows);
         let sys = system_of(Side::Left, uplo, trans, diag, va, v);
         multiply_vector(sys, a, x);
     }
@@ -511,10 +541,11 @@ pub fn trsv(
 ) -> Answer
     ensures { λ r. ⌜ Gives real64 (Trsv.trsv real64 uplo trans diag (lent real64 (now (a .entry)) va) (lent real64 (now (x .entry)) vx)) r (now (x .exit)) ⌝ }
 {
-    let quick = quick_trmv(va, a.len(), vx, x.len());
+    let stood = upright(vx);
+    let quick = quick_trmv(va, a.len(), stood, x.len());
     let answer = check_trsv(quick, va, a.len(), vx, x.len());
     if passed(answer) {
-        let v = column(vx);
+        let v = column(vx, va.rows);
         let sys = system_of(Side::Left, uplo, trans, diag, va, v);
         return solve_vector(sys, a, x);
     }

@@ -105,12 +105,14 @@ shaped-sizes v m n h = (
 )
 
 pub record Vector (v : View) (n : ℕ) : Type 0 where
+  pub shape : vectorOf v n ≡ true
   pub vector : isVector v ≡ true
   pub length : vecLength v ≡ n
 
 pub vector-sizes : (v : View) (n : ℕ) → vectorOf v n ≡ true → Vector v n
 unfolding vectorOf
 vector-sizes v n h = record {
+  shape = h;
   vector = and-left (isVector v) (eqb (vecLength v) n) h;
   length = eqb-true (vecLength v) n (and-right (isVector v) (eqb (vecLength v) n) h);
 }

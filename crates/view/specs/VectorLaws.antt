@@ -10,9 +10,9 @@ use borrow.Author.Tests.{leb-true, leb-false}
 use Rattle.view.specs.declared.View.{View}
 use Rattle.view.specs.declared.Coord.{Coord}
 use Rattle.view.specs.AnyLaws.{is-false}
-use Rattle.view.specs.Place.{place, index}
+use Rattle.view.specs.Place.{place, index, transposedOf}
 use Rattle.view.specs.Refusals.{limit, outside, isVector, vecLength, overlaps, Fits}
-use Rattle.view.specs.Vector.{coordAt, vecCoord, vecStride, columnOf}
+use Rattle.view.specs.Vector.{coordAt, vecCoord, uprightOf, vecStride, columnOf}
 use Rattle.view.specs.Steps.{Accepted}
 use Rattle.view.specs.PlaceLaws.{fits-at, at-fits}
 use Rattle.view.specs.OverlapLaws.{overlaps→doubled, no-overlap→one}
@@ -38,6 +38,23 @@ lies v h P f g = at (leb (v .cols) (v .rows)) refl (leb (v .rows) 1) refl
       where
         long : (c r : ℕ) → r < c → 1 < r → c ≤ 1 → ⊥
         long c r p q t = omega arith
+
+-- ---- the upright view begins where the view does, and its rows are as far apart as the vector's elements
+
+pub upright-start : (v : View) → uprightOf v .start ≡ v .start
+upright-start v = at (leb (v .cols) (v .rows))
+  where
+    at : (t : Bool) → cond t v (transposedOf v) .start ≡ v .start
+    at true = refl
+    at false = refl
+
+pub upright-stride : (v : View) → uprightOf v .rs ≡ vecStride v
+unfolding vecStride
+upright-stride v = at (leb (v .cols) (v .rows))
+  where
+    at : (t : Bool) → cond t v (transposedOf v) .rs ≡ cond t (v .rs) (v .cs)
+    at true = refl
+    at false = refl
 
 -- ---- element k of the column is element k of the vector
 

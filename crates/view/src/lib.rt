@@ -6,11 +6,10 @@ ghost use lib.IntN.{pos, _*ℤ_};
 ghost use mir.Syntax.{w64};
 ghost use mir.Val.{SFits};
 ghost use Rattle.view.specs.Place.{index, transposedOf, opViewOf, isConj};
-ghost use Rattle.view.specs.Refusals.{isVector, vecLength};
-ghost use Rattle.view.specs.Vector.{vecCoord, columnOf};
+ghost use Rattle.view.specs.Vector.{vecCoord, uprightOf, columnOf};
 ghost use Rattle.view.specs.Triangle.{firstCol, endCol};
 ghost use Rattle.view.specs.Judge.{answerNumber, isDone};
-ghost use Rattle.view.specs.Checks.{opRows, opCols};
+ghost use Rattle.view.specs.Checks.{opRows, opCols, vectorOf};
 ghost use Rattle.view.specs.Steps.{Shown};
 
 // Element (r, c) is at start + r * rs + c * cs, counted in elements of the slab.
@@ -187,36 +186,25 @@ pub fn vec_coord(v: View, k: usize) -> Coord
     }
 }
 
-// The length of a vector: rows times columns, of which one is at most 1.
-pub fn vec_length(v: View) -> usize
-    requires { ⌜ isVector v ≡ true ⌝ }
-    ensures { λ r. ⌜ r ≡ vecLength v ⌝ }
+// The same elements, with the columns no more than the rows.
+pub fn upright(v: View) -> View
+    ensures { λ r. ⌜ r ≡ uprightOf v ⌝ }
 {
-    v.rows * v.cols
+    if v.cols <= v.rows { v } else { transposed(v) }
 }
 
-// The vector as one column.
-pub fn column(v: View) -> View
-    requires { ⌜ isVector v ≡ true ⌝ }
+// A vector of n elements as one column.
+pub fn column(v: View, n: usize) -> View
+    requires { ⌜ vectorOf v n ≡ true ⌝ }
     ensures { λ r. ⌜ r ≡ columnOf v ⌝ }
 {
-    let n = vec_length(v);
-    if v.cols <= v.rows {
-        View {
-            start: v.start,
-            rows: n,
-            cols: 1,
-            rs: v.rs,
-            cs: 0,
-        }
-    } else {
-        View {
-            start: v.start,
-            rows: n,
-            cols: 1,
-            rs: v.cs,
-            cs: 0,
-        }
+    let u = upright(v);
+    View {
+        start: u.start,
+        rows: n,
+        cols: 1,
+        rs: u.rs,
+        cs: 0,
     }
 }
 

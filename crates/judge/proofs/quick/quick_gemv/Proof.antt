@@ -1,9 +1,9 @@
 -- `quick_gemv` meets its contract, by those of its parts.
 use borrow.Author.Needs.{needs}
+use mathlib.Core.Path.{refl}
+use Rattle.view.specs.declared.Trans.the-variants.{NoTrans}
 use Rattle.judge.proofs.Runs.{no-test}
-use mathlib.Core.Path.{sym, subst}
-use Rattle.judge.specs.Tests.{Count}
-use Rattle.judge.proofs.Passes.{op-counts, gemv-passes}
+use Rattle.judge.proofs.Passes.{gemv-passes}
 use Rattle.judge.proofs.quick.quick_gemv.Statement.{statement}
 use Rattle.judge.proofs.quick.quick_gemv.Tie as tie
 
@@ -13,28 +13,18 @@ small-requires c κs = search needs
 plain-requires : tie.Need-plain-requires
 plain-requires c κs = c .before .small .ensures (c .if1 .taken)
 
-op-cols-requires : tie.Need-op-cols-requires
-op-cols-requires c κs = search needs
-
 vector-requires : tie.Need-vector-requires
-vector-requires c κs =
-    let g = c .before .before .before .before .before .args in
-    subst Count (sym (c .op-cols .ensures)) (op-counts (g .t) (g .a) (c .before .before .before .before .small .ensures (c .before .before .before .if1 .taken)) .1)
-
-op-rows-requires : tie.Need-op-rows-requires
-op-rows-requires c κs = search needs
+vector-requires c κs = c .before .before .before .small .ensures (c .before .before .if1 .taken) .1
 
 vector-target-requires : tie.Need-vector-target-requires
-vector-target-requires c κs =
-    let g = c .before .before .before .before .before .before .before .before .args in
-    subst Count (sym (c .op-rows .ensures)) (op-counts (g .t) (g .a) (c .before .before .before .before .before .before .before .small .ensures (c .before .before .before .before .before .before .if1 .taken)) .0)
+vector-target-requires c κs = c .before .before .before .before .before .small .ensures (c .before .before .before .before .if1 .taken) .0
 
 returns : tie.Need-returns
 returns c h =
-    let g = c .before .before .before .before .before .before .before .before .before .args in
-    gemv-passes (g .t) (g .a) (g .la) (g .x) (g .lx) (g .y) (g .ly) (c .before .before .before .before .op-cols .ensures) (c .before .op-rows .ensures)
-    (c .before .before .before .before .before .before .plain .ensures (c .before .before .before .before .before .if2 .taken))
-    (c .before .before .before .vector .ensures (c .before .before .if3 .taken))
+    let g = c .before .before .before .before .before .before .before .args in
+    gemv-passes NoTrans (g .a) (g .la) (g .x) (g .lx) (g .y) (g .ly) refl refl
+    (c .before .before .before .before .plain .ensures (c .before .before .before .if2 .taken))
+    (c .before .before .vector .ensures (c .before .if3 .taken))
     (c .vector-target .ensures h)
 
 returns-2 : tie.Need-returns-2
@@ -52,9 +42,7 @@ quick-gemv-spec =
     (tie.spec
     small-requires
     plain-requires
-    op-cols-requires
     vector-requires
-    op-rows-requires
     vector-target-requires
     returns
     returns-2

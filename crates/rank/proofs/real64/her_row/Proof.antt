@@ -8,16 +8,16 @@ use Rattle.slab.specs.Elem.{elem}
 use Rattle.blas.specs.Her.{herChange}
 use Rattle.rank_plan.specs.Change.{addOne}
 use Rattle.rank_plan.proofs.Inside.{column-shows, one-shows}
-use Rattle.rank_plan.proofs.Rows.{span, span-start, span-next, span-last, row-lt, begins, column-lt}
+use Rattle.rank_plan.proofs.Rows.{span, span-start, span-step, span-last, row-lt, begins, column-lt}
 use Rattle.rank_plan.proofs.Laws.{her-same}
 use Rattle.rank.proofs.real64.her_row.Statement.{statement}
 use Rattle.rank.proofs.real64.her_row.Tie as tie
 
 abbrev Inv-loop : tie.InvT-loop
-Inv-loop alpha x vx a₀ va i w end j₀ a j = (j₀ ≤ j) × (j ≤ end) × (length a ≡ length a₀) × (a ≡ span real64 va (λ r k. addOne real64 (w .0) (elem real64 x vx) k) i j₀ j a₀)
+Inv-loop alpha x vx a₀ va i step w end j₀ a j = (j₀ ≤ j) × (j ≤ end) × (length a ≡ length a₀) × (a ≡ span real64 va (λ r k. addOne real64 (w .0) (elem real64 x vx) k) i j₀ j a₀)
 
 abbrev μ-loop : tie.MeasureT-loop
-μ-loop alpha x vx a₀ va i w end j₀ a j = end - j
+μ-loop alpha x vx a₀ va i step w end j₀ a j = end - j
 
 elem64-requires : tie.Need-elem64-requires Inv-loop μ-loop
 elem64-requires c κs = column-shows _ _ _ (c .before .before .pre .0 .x) _ (c .before .before .pre .1)
@@ -41,13 +41,15 @@ her-entry-requires : tie.Need-her-entry-requires Inv-loop μ-loop
 her-entry-requires c κs = let p = c .before .before .before .before .before .before .before .before .before .before .args in one-shows _ _ _ _ _ (c .before .before .loop .inv .2) (c .before .before .before .before .before .before .before .before .before .before .pre .0) _ _ (c .before .before .before .before .before .before .before .before .before .before .pre .1) (column-lt _ _ (c .before .before .before .before .before .before .before .before .before .before .pre .0 .target) _ (c .before .before .before .before .before .before .before .before .before .before .pre .1) _ (c .before .before .before .before .before .cols .ensures) (p .uplo) _ _ (c .before .before .before .before .end-col .ensures) (omega arith))
 
 add-j : tie.Need-add-j Inv-loop μ-loop
-add-j c = omega arith
+add-j c = omega (arith, c .before .before .before .before .before .before .before .before .before .before .before .before .before .pre .2)
 
 loop-less : tie.Need-loop-less Inv-loop μ-loop
-loop-less c = omega arith
+loop-less c = omega (arith, c .before .before .before .before .before .before .before .before .before .before .before .before .before .pre .2)
 
 loop-again : tie.Need-loop-again Inv-loop μ-loop
-loop-again c = (omega arith, omega arith, c .before .before .her-entry .kept .1 .1 .1 .0 ∙ c .before .before .before .before .before .loop .inv .2, span-next real64 _ _ _ _ _ _ _ _ (c .before .before .before .before .before .loop .inv .0) (c .before .before .before .before .before .loop .inv .3) (c .before .before .her-entry .ensures))
+loop-again c =
+    let e = c .before .before .before .before .before .before .before .before .before .before .before .before .before .pre .2 in
+    (omega (arith, e), omega (arith, e), c .before .before .her-entry .kept .1 .1 .1 .0 ∙ c .before .before .before .before .before .loop .inv .2, span-step real64 _ _ _ _ _ _ _ _ _ e (c .before .before .before .before .before .loop .inv .0) (c .before .before .before .before .before .loop .inv .3) (c .before .before .her-entry .ensures))
 
 same-length : tie.Need-same-length Inv-loop μ-loop
 same-length c = c .before .loop .inv .2

@@ -13,10 +13,13 @@ use Rattle.rank.proofs.real64.her_rows.Statement.{statement}
 use Rattle.rank.proofs.real64.her_rows.Tie as tie
 
 abbrev Inv-loop : tie.InvT-loop
-Inv-loop uplo alpha x vx a₀ va m i₀ a i = (i ≤ m) × (length a ≡ length a₀) × (a ≡ rowsOf real64 va (inTriangle uplo) (herChange real64 alpha (elem real64 x vx)) i a₀)
+Inv-loop uplo alpha x vx a₀ va step m i₀ a i = (i ≤ m) × (length a ≡ length a₀) × (a ≡ rowsOf real64 va (inTriangle uplo) (herChange real64 alpha (elem real64 x vx)) i a₀)
 
 abbrev μ-loop : tie.MeasureT-loop
-μ-loop uplo alpha x vx a₀ va m i₀ a i = m - i
+μ-loop uplo alpha x vx a₀ va step m i₀ a i = m - i
+
+step-of-requires : tie.Need-step-of-requires Inv-loop μ-loop
+step-of-requires c κs = c .before .before .pre .target .fits .rows-le
 
 rows-requires : tie.Need-rows-requires Inv-loop μ-loop
 rows-requires c κs = tt
@@ -26,7 +29,7 @@ unfolding rowsOf
 loop-holds c = (omega arith, refl, refl)
 
 her-row-requires : tie.Need-her-row-requires Inv-loop μ-loop
-her-row-requires c κs = (one-kept _ _ _ _ _ (c .before .before .loop .inv .1) (c .before .before .before .before .before .before .pre), omega (arith, c .before .before .before .rows .ensures))
+her-row-requires c κs = (one-kept _ _ _ _ _ (c .before .before .loop .inv .1) (c .before .before .before .before .before .before .before .pre), omega (arith, c .before .before .before .rows .ensures), c .before .before .before .before .step-of .ensures)
 
 add-i : tie.Need-add-i Inv-loop μ-loop
 add-i c = omega arith
@@ -49,6 +52,7 @@ her-rows-spec =
     (tie.spec
     Inv-loop
     μ-loop
+    step-of-requires
     rows-requires
     loop-holds
     her-row-requires

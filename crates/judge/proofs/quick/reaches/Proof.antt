@@ -1,4 +1,4 @@
--- `column` meets its contract, by those of its parts.
+-- `reaches` meets its contract, by those of its parts.
 use borrow.Author.Needs.{needs}
 use mathlib.Core.Path.{ap, subst, _∙_}
 use Prim.Native.Nat.{_+_, _-_, _*_}
@@ -10,8 +10,8 @@ use borrow.Author.Tests.{ltb-true}
 use Rattle.view.specs.Steps.{up}
 use Rattle.judge.specs.Tests.{Run}
 use Rattle.judge.proofs.Runs.{no-test, run-le}
-use Rattle.judge.proofs.quick.column.Statement.{statement}
-use Rattle.judge.proofs.quick.column.Tie as tie
+use Rattle.judge.proofs.quick.reaches.Statement.{statement}
+use Rattle.judge.proofs.quick.reaches.Tie as tie
 
 near-requires : tie.Need-near-requires
 near-requires c κs = search needs
@@ -21,27 +21,25 @@ short-requires c κs = search needs
 
 reach-requires : tie.Need-reach-requires
 reach-requires c κs =
-    let x = c .before .before .short .ensures (c .before .if4 .taken) in
-    let s = c .before .before .before .before .before .before .before .before .before .before in
+    let x = c .before .before .short .ensures (c .before .if2 .taken) in
+    let s = c .before .before .before .before .before .before in
     record { some = s .pre .0; few = s .pre .1; forward = x .0; short = x .1 }
 
 add-result : tie.Need-add-result
 add-result c =
-    let s = c .before .before .before .before .before .before .before .before .before .before .before .before in
+    let s = c .before .before .before .before .before .before .before .before in
     let e = toZ-ofZ {w = w64} {z = s .args .v .rs} (record { sfits = c .before .before .before .before .before .struct-told .given .1 .1 .1 .0 .1 }) in
     let r = subst (Run (s .args .n)) e (reach-requires (c .before .before) tt) in
     let d = c .before .reach .ensures ∙ ap (λ (z : ℤ). (s .args .n - 1) * up z) e in
-    record { fits = omega (arith, d, run-le (s .args .n) (s .args .v .rs) r, c .before .before .before .before .before .before .before .near .ensures (c .before .before .before .before .before .before .if3 .taken)) }
+    record { fits = omega (arith, d, run-le (s .args .n) (s .args .v .rs) r, c .before .before .before .before .before .before .before .near .ensures (c .before .before .before .before .before .before .if1 .taken)) }
 
 returns : tie.Need-returns
 returns c h =
-    let s = c .before .before .before .before .before .before .before .before .before .before .before .before in
+    let s = c .before .before .before .before .before .before .before .before in
     let e = toZ-ofZ {w = w64} {z = s .args .v .rs} (record { sfits = c .before .before .before .before .before .struct-told .given .1 .1 .1 .0 .1 }) in
     let r = subst (Run (s .args .n)) e (reach-requires (c .before .before) tt) in
     let d = c .before .reach .ensures ∙ ap (λ (z : ℤ). (s .args .n - 1) * up z) e in
     record {
-      rows-are = c .before .before .before .before .before .before .before .before .before .before .if1 .taken;
-      one = c .before .before .before .before .before .before .before .before .if2 .taken;
       run = r;
       below = omega (arith, d, ltb-true (s .args .v .start + c .before .reach .result) (s .args .len) h);
     }
@@ -52,14 +50,8 @@ returns-2 c h = no-test h
 returns-3 : tie.Need-returns-3
 returns-3 c h = no-test h
 
-returns-4 : tie.Need-returns-4
-returns-4 c h = no-test h
-
-returns-5 : tie.Need-returns-5
-returns-5 c h = no-test h
-
-pub column-spec : {M : Type 1} → statement M
-column-spec =
+pub reaches-spec : {M : Type 1} → statement M
+reaches-spec =
     tie.close
     (tie.spec
     near-requires
@@ -68,6 +60,4 @@ column-spec =
     add-result
     returns
     returns-2
-    returns-3
-    returns-4
-    returns-5)
+    returns-3)
