@@ -404,7 +404,7 @@ pub fn gemm(
     );
     if passed(answer) {
         run(
-            gemm_plan(ta, tb, va, vb, vc),
+            gemm_plan(conjugates(ta), left, conjugates(tb), right, vc),
             a,
             b,
             Multiplier::Number(alpha),

@@ -372,7 +372,7 @@ pub fn gemm(
     let answer = check_gemm(quick, ta, tb, va, a.len(), vb, b.len(), vc, c.len());
     if passed(answer) {
         run(
-            gemm_plan(ta, tb, va, vb, vc),
+            gemm_plan(conjugates(ta), left, conjugates(tb), right, vc),
             a,
             b,
             alpha,

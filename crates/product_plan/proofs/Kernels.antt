@@ -34,7 +34,7 @@ use Rattle.blas.proofs.OutcomeLaws.{check-done, gives-work, gives-refusal}
 use Rattle.product_plan.specs.declared.plan.Plan.{Plan}
 use Rattle.product_plan.specs.declared.plan.Folded.{Folded}
 use Rattle.product_plan.specs.Plan.{planChange, foldedChange, Ready, FoldedReady, ByRow}
-use Rattle.product_plan.specs.Plans.{opPlan, gemmPlan, gemvPlan, columnPlan, leftPlan, rightPlan, hemvPlan, syrkPlan, herkPlan, sidedWork, ReadySided}
+use Rattle.product_plan.specs.Plans.{opPlan, gemmPlan, gemvPlan, turnedPlan, columnPlan, leftPlan, rightPlan, hemvPlan, syrkPlan, herkPlan, sidedWork, ReadySided}
 use Rattle.product_plan.proofs.Products.{named, op-product, left-product, right-product}
 use Rattle.product_plan.proofs.Ready.{gemm-ready, gemv-ready, hemv-ready, sided-ready, syrk-ready, herk-ready, target-square}
 
@@ -58,6 +58,16 @@ module _ (K : Kind) (conj : Bool) (uplo : UpLo) (va vb : View) (n : ℕ) (vc : V
   right-leaves f h = λ i. update K vc everywhere (accumulate K f h (right-product K conj va vb n vc a b uplo i)) c
 
 -- ---- gemm
+
+-- the plan is that of op(A) and op(B)
+pub gemm-planned : (ta tb : Trans) (a b c left right : View) (ca cb : Bool) (plan : Plan) → left ≡ opViewOf ta a → ca ≡ isConj ta → right ≡ opViewOf tb b → cb ≡ isConj tb
+    → plan ≡ turnedPlan ca left cb right c → plan ≡ gemmPlan ta tb a b c
+gemm-planned ta tb a b c left right ca cb plan e d g f p = p ∙ (λ i. turnedPlan (d i) (e i) (f i) (g i) c) ∙ same ta
+  where
+    same : (t : Trans) → turnedPlan (isConj t) (opViewOf t a) (isConj tb) (opViewOf tb b) c ≡ gemmPlan t tb a b c
+    same NoTrans = refl
+    same Transposed = refl
+    same ConjTrans = refl
 
 module _ (ta tb : Trans) (a b c : View) (la lb lc : ℕ) (r : Answer) (flag : Bool)
     (answered : r ≡ gemmCheck ta tb a la b lb c lc) (told : flag ≡ isDone r) (passed : flag ≡ true) where
@@ -93,12 +103,7 @@ turned-vectors Transposed a x y p q = (p, q)
 turned-vectors ConjTrans a x y p q = (p, q)
 
 pub gemv-planned : (t : Trans) (a x y left : View) (conj : Bool) (plan : Plan) → left ≡ opViewOf t a → conj ≡ isConj t → plan ≡ columnPlan conj left x y → plan ≡ gemvPlan t a x y
-gemv-planned t a x y left conj plan e d p = p ∙ (λ i. columnPlan (d i) (e i) x y) ∙ same t
-  where
-    same : (t : Trans) → columnPlan (isConj t) (opViewOf t a) x y ≡ gemvPlan t a x y
-    same NoTrans = refl
-    same Transposed = refl
-    same ConjTrans = refl
+gemv-planned t a x y left conj plan e d p = gemm-planned t NoTrans a (columnOf x) (columnOf y) left (columnOf x) conj false plan e d refl refl p
 
 module _ (t : Trans) (a x y : View) (la lx ly : ℕ) (r : Answer) (flag : Bool)
     (answered : r ≡ gemvCheck t a la x lx y ly) (told : flag ≡ isDone r) (passed : flag ≡ true) where

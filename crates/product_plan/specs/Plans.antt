@@ -38,9 +38,12 @@ gemmPlan ta tb a b c = opPlan ta tb a b (opCols ta a) c
 abbrev pub gemvPlan : Trans → View → View → View → Plan
 gemvPlan t a x y = gemmPlan t NoTrans a (columnOf x) (columnOf y)
 
--- the same, of op(A)'s view and whether op conjugates
+-- the same, of the views of op(A) and op(B) and whether they conjugate
+abbrev pub turnedPlan : Bool → View → Bool → View → View → Plan
+turnedPlan ca a cb b c = record { factors = record { left = a; «left_conj» = ca; right = b; «right_conj» = cb }; terms = a .cols; target = c }
+
 abbrev pub columnPlan : Bool → View → View → View → Plan
-columnPlan conj a x y = record { factors = record { left = a; «left_conj» = conj; right = columnOf x; «right_conj» = false }; terms = a .cols; target = columnOf y }
+columnPlan conj a x y = turnedPlan conj a false (columnOf x) (columnOf y)
 
 abbrev pub syrkPlan : Trans → View → View → Plan
 syrkPlan t a c = opPlan (syrkLeft t) (syrkRight t) a a (opCols t a) c

@@ -5,7 +5,7 @@ ghost use mathlib.Core.Bool.{true};
 ghost use Rattle.view.specs.Checks.{vectorOf};
 ghost use Rattle.blas.specs.Syrk.{syrkLeft, syrkRight};
 ghost use Rattle.blas.specs.Herk.{herkLeft, herkRight};
-ghost use Rattle.product_plan.specs.Plans.{opFactors, opPlan, gemmPlan, columnPlan, hemvPlan, leftFactors, rightFactors, isUpper, rowTurn, colTurn, leftPlan, rightPlan, syrkPlan, herkPlan};
+ghost use Rattle.product_plan.specs.Plans.{opFactors, opPlan, turnedPlan, columnPlan, hemvPlan, leftFactors, rightFactors, isUpper, rowTurn, colTurn, leftPlan, rightPlan, syrkPlan, herkPlan};
 use crate::plan::Factors;
 use crate::plan::Folded;
 use crate::plan::Plan;
@@ -47,30 +47,30 @@ fn op_plan(ta: Trans, tb: Trans, a: View, b: View, terms: usize, c: View) -> Pla
     }
 }
 
-pub fn gemm_plan(ta: Trans, tb: Trans, a: View, b: View, c: View) -> Plan
-    ensures { λ r. ⌜ r ≡ gemmPlan ta tb a b c ⌝ }
+// Of the views of op(A) and op(B), and whether they conjugate.
+pub fn gemm_plan(left_conj: bool, left: View, right_conj: bool, right: View, c: View) -> Plan
+    ensures { λ r. ⌜ r ≡ turnedPlan «left_conj» left «right_conj» right c ⌝ }
 {
-    let terms = op_cols(ta, a);
-    op_plan(ta, tb, a, b, terms, c)
+    Plan {
+        factors: Factors {
+            left,
+            left_conj,
+            right,
+            right_conj,
+        },
+        terms: left.cols,
+        target: c,
+    }
 }
 
 // Of op(A)'s view, and whether op conjugates.
-pub fn gemv_plan(left_conj: bool, a: View, x: View, y: View) -> Plan
+pub fn gemv_plan(conj: bool, a: View, x: View, y: View) -> Plan
     requires { ⌜ (vectorOf x (a .cols) ≡ true) × (vectorOf y (a .rows) ≡ true) ⌝ }
-    ensures { λ r. ⌜ r ≡ columnPlan «left_conj» a x y ⌝ }
+    ensures { λ r. ⌜ r ≡ columnPlan conj a x y ⌝ }
 {
     let b = column(x, a.cols);
     let c = column(y, a.rows);
-    Plan {
-        factors: Factors {
-            left: a,
-            left_conj,
-            right: b,
-            right_conj: false,
-        },
-        terms: a.cols,
-        target: c,
-    }
+    gemm_plan(conj, a, false, b, c)
 }
 
 // A, or its mirror image, on the left of B.

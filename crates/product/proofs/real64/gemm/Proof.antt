@@ -3,7 +3,7 @@ use borrow.Author.Needs.{needs}
 use Rattle.number.specs.Kind.{real64}
 use Rattle.number.specs.Scaling.{scaleBy64}
 use Rattle.number.proofs.ScalingLaws.{scale64}
-use Rattle.product_plan.proofs.Kernels.{gemm-refused, gemm-runs, gemm-done}
+use Rattle.product_plan.proofs.Kernels.{gemm-refused, gemm-planned, gemm-runs, gemm-done}
 use Rattle.judge.proofs.Ops.{gemm-passes}
 use Rattle.product.proofs.real64.gemm.Statement.{statement}
 use Rattle.product.proofs.real64.gemm.Tie as tie
@@ -25,20 +25,34 @@ check-gemm-requires c κs h =
 passed-requires : tie.Need-passed-requires
 passed-requires c κs = tt
 
+conjugates-requires : tie.Need-conjugates-requires
+conjugates-requires c κs = search needs
+
+conjugates-requires-2 : tie.Need-conjugates-requires-2
+conjugates-requires-2 c κs = search needs
+
 gemm-plan-requires : tie.Need-gemm-plan-requires
-gemm-plan-requires c κs = tt
+gemm-plan-requires c κs = search needs
 
 judge-requires : tie.Need-judge-requires
 judge-requires c κs = tt
 
 run-requires : tie.Need-run-requires
-run-requires c κs = gemm-runs _ _ _ _ _ _ _ _ _ _ (c .before .before .before .before .before .check-gemm .ensures) (c .before .before .before .before .passed .ensures) (c .before .before .before .if1 .taken) _ (c .before .before .gemm-plan .ensures)
+run-requires c κs =
+    let s = c .before .before in
+    let g = s .before .before .before .before .before .before .before .before .before .before .before .before .args in
+    let p = gemm-planned (g .ta) (g .tb) (g .va) (g .vb) (g .vc) _ _ _ _ _ (s .before .before .before .before .before .before .before .before .op-view .ensures) (s .before .before .conjugates .ensures) (s .before .before .before .before .before .before .before .op-view2 .ensures) (s .before .conjugates2 .ensures) (s .gemm-plan .ensures) in
+    gemm-runs _ _ _ _ _ _ _ _ _ _ (s .before .before .before .before .before .check-gemm .ensures) (s .before .before .before .before .passed .ensures) (s .before .before .before .if1 .taken) _ p
 
 same-length : tie.Need-same-length
 same-length c = search needs
 
 returns : tie.Need-returns
-returns c = gemm-done real64 _ _ _ _ _ _ _ _ _ (c .before .before .before .before .before .before .before .before .check-gemm .ensures) (c .before .before .before .before .before .before .before .passed .ensures) (c .before .before .before .before .before .before .if1 .taken) _ _ _ _ (c .before .before .before .before .before .gemm-plan .ensures) (ap scaleBy64 (c .before .before .before .before .judge .ensures) ∙ scale64 _) refl (c .before .before .run .ensures)
+returns c =
+    let s = c .before .before .before .before .before in
+    let g = s .before .before .before .before .before .before .before .before .before .before .before .before .args in
+    let p = gemm-planned (g .ta) (g .tb) (g .va) (g .vb) (g .vc) _ _ _ _ _ (s .before .before .before .before .before .before .before .before .op-view .ensures) (s .before .before .conjugates .ensures) (s .before .before .before .before .before .before .before .op-view2 .ensures) (s .before .conjugates2 .ensures) (s .gemm-plan .ensures) in
+    gemm-done real64 _ _ _ _ _ _ _ _ _ (s .before .before .before .before .before .check-gemm .ensures) (s .before .before .before .before .passed .ensures) (s .before .before .before .if1 .taken) _ _ _ _ p (ap scaleBy64 (c .before .before .before .before .judge .ensures) ∙ scale64 _) refl (c .before .before .run .ensures)
 
 returns-2 : tie.Need-returns-2
 returns-2 c = gemm-refused real64 _ _ _ _ _ _ _ _ _ (c .before .before .check-gemm .ensures) (c .before .passed .ensures) (c .if1 .left)
@@ -52,6 +66,8 @@ gemm-spec =
     quick-gemm-requires
     check-gemm-requires
     passed-requires
+    conjugates-requires
+    conjugates-requires-2
     gemm-plan-requires
     judge-requires
     run-requires

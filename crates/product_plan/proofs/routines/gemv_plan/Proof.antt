@@ -8,8 +8,11 @@ column-requires c κs = c .pre .0
 column-requires-2 : tie.Need-column-requires-2
 column-requires-2 c κs = c .before .pre .1
 
+gemm-plan-requires : tie.Need-gemm-plan-requires
+gemm-plan-requires c κs = search needs
+
 returns : tie.Need-returns
 returns c = cc
 
 pub gemv-plan-spec : {M : Type 1} → statement M
-gemv-plan-spec = tie.close (tie.spec column-requires column-requires-2 returns)
+gemv-plan-spec = tie.close (tie.spec column-requires column-requires-2 gemm-plan-requires returns)
