@@ -311,11 +311,13 @@ impl BetaComplex {
     pub fn judge(beta: Complex) -> BetaComplex
         ensures { λ r. ⌜ r ≡ betaComplex beta ⌝ }
     {
-        if beta.is_zero() {
-            return BetaComplex::Clear;
-        }
-        if beta.is_one() {
-            return BetaComplex::Keep;
+        if Real64(beta.im).is_zero() {
+            if Real64(beta.re).is_zero() {
+                return BetaComplex::Clear;
+            }
+            if Real64(beta.re).is_one() {
+                return BetaComplex::Keep;
+            }
         }
         BetaComplex::Factor(Multiplier::Number(beta))
     }
