@@ -7,6 +7,7 @@ pub mod RealLaws
 pub mod RealExact
 pub mod Negation
 pub mod Parts
+pub mod Commutes
 pub mod SlabLaws
 pub mod ComplexLaws
 pub mod ComplexExact

@@ -1,7 +1,6 @@
 -- The laws of the triangular routines, over any number kind; each function's proof cites them.
 pub mod WalkLaws
 pub mod InOrder
-pub mod Commutes
 pub mod Systems
 pub mod Judged
 pub mod Lines

@@ -23,7 +23,7 @@ use Rattle.blas.specs.Substitution.{unknown, lastFirst}
 use Rattle.order.specs.declared.System.{System}
 use Rattle.order.specs.Triangles.{systemOf, coefficient}
 use Rattle.order.specs.Multiply.{ownDiag, own, term, lineSum}
-use Rattle.order.proofs.Commutes.{Commutes}
+use Rattle.number.proofs.Commutes.{Commutes}
 use Rattle.order.proofs.Systems.{coefficient-is, lines-elem}
 
 -- ---- a sum over the indices from q on, or up to q

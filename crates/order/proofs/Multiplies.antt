@@ -34,7 +34,7 @@ use Rattle.order.specs.Triangles.{linesView, systemOf}
 use Rattle.order.specs.Multiply.{turn, line, lineSum, multiplyOne, multiplyColumn, multiplyAll}
 use Rattle.order.proofs.WalkLaws.{walk-cong, walk-nested}
 use Rattle.order.proofs.InOrder.{Swaps, one-more}
-use Rattle.order.proofs.Commutes.{Commutes}
+use Rattle.number.proofs.Commutes.{Commutes}
 use Rattle.order.proofs.Systems.{lines-index}
 use Rattle.order.proofs.LineSums.{goesInto, weighs, lineDot, line-sum-is}
 

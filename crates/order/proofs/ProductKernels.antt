@@ -25,7 +25,7 @@ use Rattle.order.specs.Triangles.{systemOf}
 use Rattle.order.specs.Multiply.{multiplyOne, multiplyAll}
 use Rattle.order.specs.Walk.{walk}
 use Rattle.order.proofs.InOrder.{Swaps}
-use Rattle.order.proofs.Commutes.{Commutes}
+use Rattle.number.proofs.Commutes.{Commutes}
 use Rattle.order.proofs.Judged.{vector-runs, matrix-runs, all-inside}
 use Rattle.order.proofs.Multiplies.{multiplied-all}
 

@@ -39,7 +39,7 @@ use Rattle.order.specs.Multiply.{turn, line}
 use Rattle.order.specs.Solve.{byDiag, zeroDiag, solveOne, solveUnknowns, zeroAfter, firstZero, stops, answered, linesSolved, Solved}
 use Rattle.order.proofs.WalkLaws.{walk-cong, walk-nested, walk-rounds}
 use Rattle.order.proofs.InOrder.{Swaps}
-use Rattle.order.proofs.Commutes.{Commutes}
+use Rattle.number.proofs.Commutes.{Commutes}
 use Rattle.order.proofs.Lines.{line-after-line}
 use Rattle.order.proofs.Systems.{opSided, coefficient-is, diagonal-is, lines-index, lines-elem}
 

@@ -29,10 +29,6 @@ module _ (K : Kind) (v : View) (mask : Mask) (u : Change K) (s : List (K .Cell))
   unfolding row
   row-step i j = rw add-one
 
-  pub rows-start : rows K v mask u 0 s ≡ s
-  unfolding rows
-  rows-start = refl
-
   pub rows-step : (i : ℕ) → rows K v mask u (i + 1) s ≡ row K v mask u i (v .cols) (rows K v mask u i s)
   unfolding rows
   rows-step i = rw add-one
@@ -94,11 +90,6 @@ module _ (K : Kind) (v : View) (mask : Mask) (u : Change K) where
       s
       refl
 
-  pub update-cong : (u' : Change K) →
-      ((i j : ℕ) → i < v .rows → j < v .cols → mask i j ≡ true → (x : K .Elem) → u i j x ≡ u' i j x) → (s : List (K .Cell)) →
-      update K v mask u s ≡ update K v mask u' s
-  update-cong u' e s = update-like mask u' (λ i j _ _. refl) e s
-
   pub update-mask : (mask' : Mask) → ((i j : ℕ) → i < v .rows → j < v .cols → mask i j ≡ mask' i j) → (s : List (K .Cell)) →
       update K v mask u s ≡ update K v mask' u s
   update-mask mask' m s = update-like mask' u m (λ i j _ _ _ x. refl) s
@@ -128,20 +119,11 @@ module _ (K : Kind) (v : View) (mask : Mask) (u : Change K) (s : List (K .Cell))
   size-rows m = keep-rows K v mask u (λ t. f t ≡ f s) 0 m (omega arith) (λ i _ _ j _ _ t e. h t _ _ ∙ e) s refl
 
 module _ (K : Kind) (L : SlabLaws K) (v : View) (mask : Mask) (u : Change K) (s : List (K .Cell)) where
-  pub length-row : (i n : ℕ) → length (row K v mask u i n s) ≡ length s
-  length-row = size-row K v mask u s length (L .length-put)
-
   pub length-rows : (m : ℕ) → length (rows K v mask u m s) ≡ length s
   length-rows = size-rows K v mask u s length (L .length-put)
 
-  pub length-prefix : (i j : ℕ) → length (prefix K v mask u i j s) ≡ length s
-  length-prefix i j = size-row K v mask u (rows K v mask u i s) length (L .length-put) i j ∙ length-rows i
-
   pub length-update : length (update K v mask u s) ≡ length s
   length-update = length-rows (v .rows)
-
-  pub count-row : (i n : ℕ) → K .count (row K v mask u i n s) ≡ K .count s
-  count-row = size-row K v mask u s (K .count) (L .count-put)
 
   pub count-rows : (m : ℕ) → K .count (rows K v mask u m s) ≡ K .count s
   count-rows = size-rows K v mask u s (K .count) (L .count-put)

@@ -3,7 +3,7 @@ use mathlib.Core.Path.{ap}
 use Rattle.number.specs.Kind.{complex}
 use Rattle.number.proofs.Instances.{complex-laws}
 use Rattle.order.proofs.InOrder.{complex-swaps}
-use Rattle.order.proofs.Commutes.{complex-commutes}
+use Rattle.number.proofs.Commutes.{complex-commutes}
 use Rattle.order.proofs.Systems.{ready-made}
 use Rattle.order.proofs.Solves.{solved-gives}
 use Rattle.order.proofs.SolveKernels.{sided-gives}

@@ -2,7 +2,7 @@ use mathlib.Core.Path.{refl}
 use Rattle.number.specs.Kind.{complex}
 use Rattle.number.proofs.Instances.{complex-laws}
 use Rattle.order.proofs.InOrder.{complex-swaps}
-use Rattle.order.proofs.Commutes.{complex-commutes}
+use Rattle.number.proofs.Commutes.{complex-commutes}
 use Rattle.order.proofs.Judged.{matrix-runs}
 use Rattle.order.proofs.ProductKernels.{trmm-refused, trmm-done}
 use Rattle.order.proofs.Systems.{ready-made}

@@ -2,7 +2,7 @@ use mathlib.Core.Path.{refl}
 use Rattle.number.specs.Kind.{complex}
 use Rattle.number.proofs.Instances.{complex-laws}
 use Rattle.order.proofs.InOrder.{complex-swaps}
-use Rattle.order.proofs.Commutes.{complex-commutes}
+use Rattle.number.proofs.Commutes.{complex-commutes}
 use Rattle.order.proofs.Judged.{vector-passed, vector-runs}
 use Rattle.order.proofs.ProductKernels.{trmv-refused, trmv-done}
 use Rattle.order.proofs.Systems.{ready-made, one-line}

@@ -5,7 +5,7 @@ use Rattle.view.specs.declared.Side.the-variants.{Left}
 use Rattle.order.proofs.Systems.{ready-made, one-line}
 use Rattle.order.proofs.Solves.{solved-gives}
 use Rattle.order.proofs.InOrder.{complex-swaps}
-use Rattle.order.proofs.Commutes.{complex-commutes}
+use Rattle.number.proofs.Commutes.{complex-commutes}
 use Rattle.order.proofs.Judged.{vector-passed, vector-runs}
 use Rattle.order.proofs.SolveKernels.{trsv-refused, trsv-done}
 use borrow.Author.Needs.{needs}

@@ -2,7 +2,7 @@ use lib.Ieee.{binary32}
 use Rattle.number.specs.Kind.{real32}
 use Rattle.number.proofs.Instances.{real32-laws}
 use Rattle.order.proofs.InOrder.{real-swaps}
-use Rattle.order.proofs.Commutes.{real-commutes}
+use Rattle.number.proofs.Commutes.{real-commutes}
 use Rattle.order.proofs.Systems.{ready-made}
 use Rattle.order.proofs.Solves.{solved-gives}
 use Rattle.order.proofs.SolveKernels.{sided-gives}

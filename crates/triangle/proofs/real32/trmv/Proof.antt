@@ -3,7 +3,7 @@ use mathlib.Core.Path.{refl}
 use Rattle.number.specs.Kind.{real32}
 use Rattle.number.proofs.Instances.{real32-laws}
 use Rattle.order.proofs.InOrder.{real-swaps}
-use Rattle.order.proofs.Commutes.{real-commutes}
+use Rattle.number.proofs.Commutes.{real-commutes}
 use Rattle.order.proofs.Judged.{vector-passed, vector-runs}
 use Rattle.order.proofs.ProductKernels.{trmv-refused, trmv-done}
 use Rattle.order.proofs.Systems.{ready-made, one-line}

@@ -6,7 +6,7 @@ use Rattle.view.specs.declared.Side.the-variants.{Left}
 use Rattle.order.proofs.Systems.{ready-made, one-line}
 use Rattle.order.proofs.Solves.{solved-gives}
 use Rattle.order.proofs.InOrder.{real-swaps}
-use Rattle.order.proofs.Commutes.{real-commutes}
+use Rattle.number.proofs.Commutes.{real-commutes}
 use Rattle.order.proofs.Judged.{vector-passed, vector-runs}
 use Rattle.order.proofs.SolveKernels.{trsv-refused, trsv-done}
 use borrow.Author.Needs.{needs}

@@ -1,4 +1,4 @@
--- A product is the same in either order of its operands, so that both sides are one loop.
+-- A product is the same in either order of its operands.
 use Prim.Native.Nat.{ℕ, _+_, _*_, _-_, _<_, _≤_}
 use mathlib.Core.Bool.{Bool, true, false, cond, _&&_}
 use mathlib.Core.Path.{_≡_, refl, ap, sym, _∙_}
