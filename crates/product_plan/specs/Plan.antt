@@ -66,16 +66,6 @@ stepOf (negsuc n) = 2 ^ 64 - 1 - n
 abbrev pub bentStep : ℕ → ℕ → ℕ → ℕ → ℕ
 bentStep before after i p = cond (ltb p i) before after
 
--- ---- the columns of a row that are written
-
--- of the first n columns of row i the mask admits those from `first` to before `end`
-pub record Columns (mask : Update.Mask) (i n first end : ℕ) : Type 0 where
-  pub ordered : first ≤ end
-  pub within : end ≤ n
-  pub before : (j : ℕ) → j < first → mask i j ≡ false
-  pub inside : (j : ℕ) → first ≤ j → j < end → mask i j ≡ true
-  pub after : (j : ℕ) → end ≤ j → j < n → mask i j ≡ false
-
 -- ---- what the engine asks of its caller: that it reads and writes inside the slabs, of la, lb and lc elements
 
 -- the factors of every term of m rows and n columns, k terms each

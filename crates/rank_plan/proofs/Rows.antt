@@ -1,20 +1,15 @@
 -- A loop over the columns of a row that are in the named triangle is the fold over the row: the fold skips the others.
 use Prim.Native.Nat.{ℕ, _+_, _≤_, _<_}
 use mathlib.Core.List.{List}
-use mathlib.Core.Path.{_≡_, refl, sym, ap, subst, _∙_}
+use mathlib.Core.Path.{_≡_, refl, sym, subst}
 use native.Mathlib.Omega.{arith}
-use lib.Dec.{leb}
-use borrow.Author.Tests.{le-leb, lt-leb}
 use Rattle.number.specs.Kind.{Kind}
 use Rattle.view.specs.declared.View.{View}
 use Rattle.view.specs.declared.UpLo.{UpLo}
 use Rattle.view.specs.declared.UpLo.the-variants.{Upper, Lower}
 use Rattle.view.specs.Triangle.{inTriangle, firstCol, endCol}
-use Rattle.view.specs.Place.{index}
-use Rattle.slab.specs.Elem.{elem}
 use Rattle.slab.specs.Update.{Change, row}
-use Rattle.slab.proofs.UpdateLaws.{row-both, row-start}
-use Rattle.slab.proofs.LoopLaws.{row-skip}
+use Rattle.slab.proofs.Columns.{columns-last, row-columns}
 pub use Rattle.slab.proofs.LoopLaws.{span, span-start, span-next}
 use Rattle.rank_plan.specs.Change.{replaced}
 use Rattle.rank_plan.specs.Ready.{Square}
@@ -37,36 +32,11 @@ first-le Lower i n h = omega arith
 
 -- ---- the fold from column a on, as a loop meets it: it ends where the triangle does
 
--- the loop's columns are those in the named triangle
-like : (uplo : UpLo) (i n j : ℕ) → j < endCol uplo i n → leb (firstCol uplo i) j ≡ inTriangle uplo i j
-like Upper i n j h = refl
-like Lower i n j h = le-leb 0 j (omega arith) ∙ sym (le-leb j i (omega arith))
-
-module _ (K : Kind) (v : View) (u : Change K) (i : ℕ) (s : List (K .Cell)) where
-  after-end : (uplo : UpLo) (n : ℕ) → i < n → row K v (inTriangle uplo) u i n s ≡ row K v (inTriangle uplo) u i (endCol uplo i n) s
-  after-end Upper n h = refl
-  after-end Lower n h = row-skip K v (inTriangle Lower) u i (i + 1) n (omega arith) (λ j l g. lt-leb j i (omega arith)) s
-
 -- the whole loop is the fold over the row, where u' says of each of its elements what u says
-module _ (K : Kind) (v : View) (i : ℕ) (uplo : UpLo) (u u' : Change K) where
-  span-is : ((j : ℕ) (x : K .Elem) → u i j x ≡ u' i j x) → (n : ℕ) (s : List (K .Cell))
-      → span K v u i (firstCol uplo i) (endCol uplo i n) s ≡ row K v (inTriangle uplo) u' i (endCol uplo i n) s
-  span-is same n s =
-      row-both K v (λ r j. leb (firstCol uplo i) j) (inTriangle uplo) u u' (λ p q. p ≡ q) i 0 (endCol uplo i n) (omega arith)
-      (λ j l g. (like uplo i n j g, λ m p q e. ap (λ t. replaced K v i j (u i j) t) e ∙ ap (K .put q (index v i j)) (same j (elem K q v i j))))
-      s
-      s
-      (row-start K v (λ r j. leb (firstCol uplo i) j) u s i ∙ sym (row-start K v (inTriangle uplo) u' s i))
-
-  pub span-last : (n a e j : ℕ) (s₀ s : List (K .Cell)) → n ≡ v .cols → a ≡ firstCol uplo i → e ≡ endCol uplo i n → i < n → j ≤ e → e ≤ j
-      → s ≡ span K v u i a j s₀ → ((j : ℕ) (x : K .Elem) → u i j x ≡ u' i j x) → s ≡ row K v (inTriangle uplo) u' i (v .cols) s₀
-  span-last n a e j s₀ s en ea ee h g l p same =
-      let q : j ≡ e = omega arith in
-      p
-      ∙ (λ t. span K v u i (ea t) ((q ∙ ee) t) s₀)
-      ∙ span-is same n s₀
-      ∙ sym (after-end K v u' i s₀ uplo n h)
-      ∙ ap (λ (k : ℕ). row K v (inTriangle uplo) u' i k s₀) en
+pub span-last : (K : Kind) (v : View) (i : ℕ) (uplo : UpLo) (u u' : Change K) (n a e j : ℕ) (s₀ s : List (K .Cell)) → n ≡ v .cols → a ≡ firstCol uplo i → e ≡ endCol uplo i n → i < n → j ≤ e → e ≤ j
+    → s ≡ span K v u i a j s₀ → ((j : ℕ) (x : K .Elem) → u i j x ≡ u' i j x) → s ≡ row K v (inTriangle uplo) u' i (v .cols) s₀
+span-last K v i uplo u u' n a e j s₀ s en ea ee h g l p same =
+    columns-last K v (inTriangle uplo) u u' i n a e (row-columns uplo i n a e n h refl ea ee) same j s₀ s en g l p
 
 -- ---- where the loop is, in a square target
 

@@ -1,7 +1,8 @@
 -- The elements that a view shows, replaced in place: by rows, each by rising column. Element (i, j) becomes `u i j` of itself
 -- where `mask i j` admits it, and stays otherwise.
-use Prim.Native.Nat.{ℕ, zero, suc}
-use mathlib.Core.Bool.{Bool, true, cond, _&&_, _||_}
+use mathlib.Core.Path.{_≡_}
+use Prim.Native.Nat.{ℕ, zero, suc, _≤_, _<_}
+use mathlib.Core.Bool.{Bool, true, cond, _&&_, _||_, false}
 use mathlib.Core.List.{List}
 use lib.Dec.{ltb, eqb}
 use Rattle.number.specs.Kind.{Kind}
@@ -51,3 +52,13 @@ first i j mask r c = before r c i j && mask r c
 -- the elements before (i, j) done, and no other
 abbrev pub prefix : (K : Kind) → View → Mask → Change K → ℕ → ℕ → List (K .Cell) → List (K .Cell)
 prefix K v mask u i j s = row K v mask u i j (rows K v mask u i s)
+
+-- ---- the columns of a row that are written
+
+-- of the first n columns of row i the mask admits those from `first` to before `end`
+pub record Columns (mask : Mask) (i n first end : ℕ) : Type 0 where
+  pub ordered : first ≤ end
+  pub within : end ≤ n
+  pub before : (j : ℕ) → j < first → mask i j ≡ false
+  pub inside : (j : ℕ) → first ≤ j → j < end → mask i j ≡ true
+  pub after : (j : ℕ) → end ≤ j → j < n → mask i j ≡ false
