@@ -1,41 +1,28 @@
 -- A row or a column of a folded operand, walked: the place of a term, the step to the next one, and the term that is read there.
-use Prim.Native.Nat.{ℕ, _+_, _*_, _%_, _^_, _≤_, _<_}
+use Prim.Native.Nat.{ℕ, _+_, _%_, _^_, _≤_, _<_}
 use mathlib.Core.Bool.{Bool, true, false, cond}
 use mathlib.Core.List.{List}
 use mathlib.Core.Path.{_≡_, refl, sym, ap, subst, _∙_}
 use native.Mathlib.Omega.{arith}
 use lib.Dec.{ltb}
-use lib.IntN.{ℤ, pos, negsuc}
 use lib.Ieee.{Float, Format}
 use borrow.Author.Tests.{lt-ltb, ltb-true, ltb-false}
 use Rattle.number.specs.Kind.{Kind, real}
 use Rattle.view.specs.declared.View.{View}
 use Rattle.view.specs.Place.{index, transposedOf}
-use Rattle.view.specs.Steps.{up, down}
+use Rattle.view.specs.Steps.{stepOf}
+use Rattle.view.specs.StepLaws.{next-col}
 use Rattle.view.specs.TransposeLaws.{transposed-index, transposed-accepted}
-use Rattle.view.specs.PlaceLaws.{fits→inside, fits→index-lt, index-is}
 use Rattle.slab.specs.Elem.{elem, Shows}
 use Rattle.slab.proofs.RunLaws.{plain-real}
 use Rattle.slab.proofs.Shown.{inside}
 use Rattle.blas.proofs.OpLaws.{transposed-elem}
 use Rattle.product_plan.specs.declared.plan.Folded.{Folded}
-use Rattle.product_plan.specs.Plan.{term, turnOf, foldedTerm, stepOf, bentStep, LeftWalk, RightWalk}
+use Rattle.product_plan.specs.Plan.{term, turnOf, foldedTerm, bentStep, LeftWalk, RightWalk}
 
--- ---- one column further
-
--- by a stride of z: x and y are the places, s and d what the view's start and row add and take off
-step-by : (z : ℤ) (x y s d c : ℕ) → x + (d + c * down z) ≡ s + c * up z → y + (d + (c + 1) * down z) ≡ s + (c + 1) * up z → x < 2 ^ 63 → y < 2 ^ 63
-    → (x + stepOf z) % 2 ^ 64 ≡ y
-step-by (pos m) x y s d c ex ey hx hy = omega arith
-step-by (negsuc m) x y s d c ex ey hx hy = omega arith
-
-pub step-index : (v : View) (len r c : ℕ) → len ≤ 2 ^ 63 → Shows v len r c → Shows v len r (c + 1) → (index v r c + stepOf (v .cs)) % 2 ^ 64 ≡ index v r (c + 1)
-step-index v len r c small h g =
-    step-by (v .cs) (index v r c) (index v r (c + 1)) (v .start + r * up (v .rs)) (r * down (v .rs)) c
-    (index-is v len r c (fits→inside v len (h .fits .fits) r c (h .row) (h .col)))
-    (index-is v len r (c + 1) (fits→inside v len (g .fits .fits) r (c + 1) (g .row) (g .col)))
-    (omega (arith, fits→index-lt v len (h .fits .fits) r c (h .row) (h .col)))
-    (omega (arith, fits→index-lt v len (g .fits .fits) r (c + 1) (g .row) (g .col)))
+-- one column further
+step-index : (v : View) (len r c : ℕ) → len ≤ 2 ^ 63 → Shows v len r c → Shows v len r (c + 1) → (index v r c + stepOf (v .cs)) % 2 ^ 64 ≡ index v r (c + 1)
+step-index v len r c small h g = next-col v len small (h .fits .fits) r c (h .row) (g .col)
 
 -- ---- the place of term p
 

@@ -4,7 +4,6 @@ use mathlib.Core.Bool.{true, false, cond}
 use mathlib.Core.List.{List}
 use mathlib.Core.Path.{_≡_}
 use lib.Dec.{ltb}
-use lib.IntN.{ℤ, pos, negsuc}
 use Rattle.number.specs.Kind.{Kind}
 use Rattle.view.specs.declared.View.{View}
 use Rattle.view.specs.Place.{index}
@@ -56,11 +55,6 @@ abbrev pub replaced : (K : Kind) → View → ℕ → ℕ → (K .Elem → K .El
 replaced K v i j f s = K .put s (index v i j) (f (elem K s v i j))
 
 -- ---- a row or a column walked by adding to a place, modulo 2^64
-
--- what a stride adds
-abbrev pub stepOf : ℤ → ℕ
-stepOf (pos n) = n
-stepOf (negsuc n) = 2 ^ 64 - 1 - n
 
 -- what is added to the place of term p, where the stride changes at term i
 abbrev pub bentStep : ℕ → ℕ → ℕ → ℕ → ℕ

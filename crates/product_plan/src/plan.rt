@@ -2,7 +2,7 @@
 
 ghost use mathlib.Core.Path.{_≡_};
 ghost use Prim.Native.Nat.{_+_, _%_, _^_, _≤_};
-ghost use Rattle.product_plan.specs.Plan.{turnOf, stepOf, bentStep};
+ghost use Rattle.product_plan.specs.Plan.{turnOf, bentStep};
 use std::num::wrapping_add_usize;
 use view::View;
 
@@ -49,31 +49,6 @@ pub fn turn_at(t: Turn, i: usize, j: usize, n: usize) -> usize
         Turn::AtCol => j,
         Turn::PastCol => j + 1,
     }
-}
-
-// A stride as what it adds to a place, modulo 2^64.
-fn step(z: i64) -> usize
-    ensures { λ r. ⌜ r ≡ stepOf z ⌝ }
-{
-    if z < 0 {
-        usize::MAX - (-1 - z) as usize
-    } else {
-        z as usize
-    }
-}
-
-// What a step to the next column adds.
-pub fn col_step(v: View) -> usize
-    ensures { λ r. ⌜ r ≡ stepOf (v .cs) ⌝ }
-{
-    step(v.cs)
-}
-
-// What a step to the next row adds.
-pub fn row_step(v: View) -> usize
-    ensures { λ r. ⌜ r ≡ stepOf (v .rs) ⌝ }
-{
-    step(v.rs)
 }
 
 // The place after place k, that of term p: a line goes by one step to term i, and by another from there.

@@ -11,6 +11,7 @@ pub mod AnyLaws
 pub mod Signs
 pub mod PlaceLaws
 pub mod TransposeLaws
+pub mod StepLaws
 pub mod OverlapLaws
 pub mod VectorLaws
 pub mod JudgeLaws
