@@ -74,10 +74,10 @@ pub fn is_side_uplo_trans_diag(s: u8, u: u8, t: u8, d: u8) -> bool
 pub fn trans_of(t: u8) -> Trans
     ensures { λ r. ⌜ r ≡ transOf t ⌝ }
 {
-    if t < 2 {
-        if t == 0 { Trans::NoTrans } else { Trans::Trans }
-    } else {
-        Trans::ConjTrans
+    match t {
+        0 => Trans::NoTrans,
+        1 => Trans::Trans,
+        _ => Trans::ConjTrans,
     }
 }
 

@@ -11,15 +11,17 @@ use mir.Syntax.{w64}
 use mir.Val.{Fits, ofZ}
 use borrow.Author.Tests.{ltb-true, eq-eqb}
 use Rattle.view.specs.declared.View.{View}
+use Rattle.view.specs.Place.{transposedOf}
+use Rattle.view.specs.TransposeLaws.{transposed-accepted}
 use Rattle.view.specs.AnyLaws.{clash}
 use Rattle.view.specs.Refusals.{limit, overlaps, isVector}
 use Rattle.view.specs.Steps.{up, down, meets, Accepted}
-use Rattle.judge.specs.Tests.{Count, Run, Plain, Column}
+use Rattle.judge.specs.Tests.{Count, Run, Plain, Reaching, Column, Along, standing, lying}
 use Rattle.view.specs.Checks.{vectorOf}
 use Rattle.view.specs.OverlapLaws.{overlaps-is, no-meeting}
 use Rattle.refusal.proofs.Extent.{extent-fits}
 use Rattle.refusal.proofs.Multiples.{each-past}
-use Rattle.judge.proofs.Vectors.{thin-cols, length-is}
+use Rattle.judge.proofs.Vectors.{thin-cols, length-is, turned-vector, turned-overlaps}
 
 pub no-test : {A : Type 0} → false ≡ true → A
 no-test {A} h = subst (λ (b : Bool). at b) h tt
@@ -78,37 +80,44 @@ leads-on n (negsuc k) r h = absurd (at k (r .forward))
     at : (k : ℕ) → suc k ≡ 0 → ⊥
     at k e = omega arith
 
--- ---- vectors that stand as columns
-
-column-accepted : (v : View) (n len : ℕ) → Column v n len → Accepted v len
-column-accepted v n len k =
-    let r = k .reaching .run in
-    record {
-      rows-le = omega (arith, k .rows-are, r .few);
-      cols-le = omega (arith, k .one);
-      fits = extent-fits v len (n - 1) 0 (omega (arith, k .rows-are, r .some)) (omega (arith, k .one)) (omega (arith, k .reaching .below))
-          (omega (arith, k .reaching .below, zero-mul (up (v .cs))))
-          (omega (arith, ap (λ (d : ℕ). (n - 1) * d) (r .forward), mul-zero (n - 1), zero-mul (down (v .cs))));
-    }
-
-pub column-distinct : (v : View) (n len : ℕ) → Column v n len → 0 < up (v .rs) → overlaps v ≡ false
-column-distinct v n len k h =
-    overlaps-is v
-    ∙ no-meeting (v .rows) (natAbs (v .rs)) (v .cols) (natAbs (v .cs))
-    (each-past (v .rows) (natAbs (v .rs)) (v .cols) (natAbs (v .cs))
-    (omega (arith, k .one, ap (λ (m : ℕ). (m - 1) * natAbs (v .cs)) (k .one), zero-mul (natAbs (v .cs))))
-    (omega (arith, h, run-abs n (v .rs) (k .reaching .run), ap (λ (m : ℕ). (m - 1) * natAbs (v .cs)) (k .one), zero-mul (natAbs (v .cs)))))
+-- ---- vectors
 
 -- a vector of length n
 of-length : (v : View) (n : ℕ) → isVector v ≡ true → v .rows * v .cols ≡ n → vectorOf v n ≡ true
 of-length v n h e = sym (length-is v n n h e) ∙ eq-eqb n n refl
 
+-- what the tests pass as a vector of length n
 pub record Line (v : View) (n len : ℕ) : Type 0 where
   pub accepted : Accepted v len
   pub vector : vectorOf v n ≡ true
 
-pub standing : (v : View) (n len : ℕ) → Column v n len → Line v n len
-standing v n len k = record {
-  accepted = column-accepted v n len k;
+column-line : (v : View) (n len : ℕ) → Column v n → Reaching (v .start) n (v .rs) len → Line v n len
+column-line v n len k r = record {
+  accepted = record {
+    rows-le = omega (arith, k .rows-are, r .run .few);
+    cols-le = omega (arith, k .one);
+    fits = extent-fits v len (n - 1) 0 (omega (arith, k .rows-are, r .run .some)) (omega (arith, k .one)) (omega (arith, r .below))
+        (omega (arith, r .below, zero-mul (up (v .cs))))
+        (omega (arith, ap (λ (d : ℕ). (n - 1) * d) (r .run .forward), mul-zero (n - 1), zero-mul (down (v .cs))));
+  };
   vector = of-length v n (thin-cols v (omega (arith, k .one))) (ap (λ (m : ℕ). v .rows * m) (k .one) ∙ mul-one (v .rows) ∙ k .rows-are);
 }
+
+column-distinct : (v : View) (n : ℕ) → Column v n → Run n (v .rs) → 0 < up (v .rs) → overlaps v ≡ false
+column-distinct v n k r h =
+    overlaps-is v
+    ∙ no-meeting (v .rows) (natAbs (v .rs)) (v .cols) (natAbs (v .cs))
+    (each-past (v .rows) (natAbs (v .rs)) (v .cols) (natAbs (v .cs))
+    (omega (arith, k .one, ap (λ (m : ℕ). (m - 1) * natAbs (v .cs)) (k .one), zero-mul (natAbs (v .cs))))
+    (omega (arith, h, run-abs n (v .rs) r, ap (λ (m : ℕ). (m - 1) * natAbs (v .cs)) (k .one), zero-mul (natAbs (v .cs)))))
+
+-- a row is a column of the transposed view
+pub line : (v : View) (n : ℕ) (z : ℤ) (len : ℕ) → Along v n z → Reaching (v .start) n z len → Line v n len
+line v n z len (standing k) r = column-line v n len k r
+line v n z len (lying k) r =
+    let w = column-line (transposedOf v) n len k r in
+    record { accepted = transposed-accepted (transposedOf v) len (w .accepted); vector = sym (turned-vector v n) ∙ w .vector }
+
+pub line-distinct : (v : View) (n : ℕ) (z : ℤ) → Along v n z → Run n z → 0 < up z → overlaps v ≡ false
+line-distinct v n z (standing k) r h = column-distinct v n k r h
+line-distinct v n z (lying k) r h = sym (turned-overlaps v) ∙ column-distinct (transposedOf v) n k r h

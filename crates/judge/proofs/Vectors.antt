@@ -1,13 +1,18 @@
 -- Vectors, as the code's tests find them.
-use mathlib.Core.Path.{_≡_, sym, _∙_, ap}
-use mathlib.Core.Bool.{Bool, true, false, _&&_}
+use mathlib.Core.Path.{_≡_, refl, sym, _∙_, ap}
+use mathlib.Core.Bool.{Bool, true, false, _&&_, _||_}
 use Prim.Native.Nat.{ℕ, _≤_, _<_}
+use native.Mathlib.Nat.{mul-comm}
 use lib.Dec.{leb, eqb}
+use lib.IntN.{natAbs}
 use borrow.Author.Tests.{le-leb, lt-leb}
 use Rattle.view.specs.declared.View.{View}
+use Rattle.view.specs.Place.{transposedOf}
 use Rattle.view.specs.AnyLaws.{or-left, or-right, or-none, and-no-left}
-use Rattle.view.specs.Refusals.{isVector, vecLength}
+use Rattle.view.specs.Refusals.{isVector, vecLength, overlaps}
 use Rattle.view.specs.Checks.{vectorOf}
+use Rattle.view.specs.OverlapLaws.{overlaps-is}
+use Rattle.refusal.proofs.Multiples.{turned}
 
 pub thin-rows : (v : View) → v .rows ≤ 1 → isVector v ≡ true
 unfolding isVector
@@ -28,3 +33,19 @@ length-is v m n h e = ap (λ (k : ℕ). eqb k n) (sym e) ∙ ap (λ (b : Bool). 
 pub no-length : (v : View) (n : ℕ) → isVector v ≡ false → false ≡ vectorOf v n
 unfolding vectorOf
 no-length v n h = sym (and-no-left (isVector v) (eqb (vecLength v) n) h)
+
+-- ---- the transposed view
+
+either : (p q : Bool) → (p || q) ≡ (q || p)
+either true true = refl
+either true false = refl
+either false true = refl
+either false false = refl
+
+pub turned-vector : (v : View) (n : ℕ) → vectorOf (transposedOf v) n ≡ vectorOf v n
+unfolding vectorOf isVector
+turned-vector v n i = either (leb (v .cols) 1) (leb (v .rows) 1) i && eqb (mul-comm (v .cols) (v .rows) i) n
+
+pub turned-overlaps : (v : View) → overlaps (transposedOf v) ≡ overlaps v
+turned-overlaps v =
+    overlaps-is (transposedOf v) ∙ sym (turned (v .rows) (natAbs (v .rs)) (v .cols) (natAbs (v .cs))) ∙ sym (overlaps-is v)

@@ -3,6 +3,7 @@ use mathlib.Core.Path.{_≡_}
 use Prim.Native.Nat.{ℕ, _+_, _-_, _*_, _^_, _≤_, _<_}
 use lib.IntN.{ℤ}
 use Rattle.view.specs.declared.View.{View}
+use Rattle.view.specs.Place.{transposedOf}
 use Rattle.view.specs.Refusals.{limit}
 use Rattle.view.specs.Steps.{up, down}
 
@@ -22,13 +23,17 @@ abbrev pub Plain : View → ℕ → Type 0
 Plain v len =
     Run (v .rows) (v .rs) × Run (v .cols) (v .cs) × (v .start + ((v .rows - 1) * up (v .rs) + (v .cols - 1) * up (v .cs)) < len)
 
--- n elements down the first column of a view
-pub record Reaching (v : View) (n len : ℕ) : Type 0 where
-  pub run : Run n (v .rs)
-  pub below : v .start + (n - 1) * up (v .rs) < len
+-- n elements from a start, by a stride
+pub record Reaching (start n : ℕ) (z : ℤ) (len : ℕ) : Type 0 where
+  pub run : Run n z
+  pub below : start + (n - 1) * up z < len
 
--- a column of n elements that the quick tests pass
-pub record Column (v : View) (n len : ℕ) : Type 0 where
-  pub rows-are : v .rows ≡ n
+-- a column of n elements
+pub record Column (v : View) (n : ℕ) : Type 0 where
   pub one : v .cols ≡ 1
-  pub reaching : Reaching v n len
+  pub rows-are : v .rows ≡ n
+
+-- the stride along a vector of length n, a column or a row
+pub data Along (v : View) (n : ℕ) : ℤ → Type 0 where
+  standing : Column v n → Along v n (v .rs)
+  lying : Column (transposedOf v) n → Along v n (v .cs)

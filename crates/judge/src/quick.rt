@@ -1,12 +1,11 @@
-// Quick tests that pass calls as most are: views of at least one element, with small starts and with strides that are small and not negative,
-// and vectors that stand as columns.
+// Quick tests that pass calls as most are: views of at least one element, with small starts and with strides that are small and not negative.
 // A call that they do not pass is judged in full.
 ghost use mathlib.Core.Path.{_≡_};
 ghost use mathlib.Core.Bool.{true, false};
 ghost use Prim.Native.Nat.{_+_, _-_, _*_, _<_, _^_};
 ghost use Rattle.view.specs.Refusals.{overlaps};
 ghost use Rattle.view.specs.Steps.{up, down, meets, Accepted};
-ghost use Rattle.judge.specs.Tests.{Count, Run, Plain, Reaching};
+ghost use Rattle.judge.specs.Tests.{Count, Run, Plain, Reaching, Along};
 ghost use Rattle.view.specs.Checks as specs;
 use crate::shapes;
 use refusal::LIMIT;
@@ -108,30 +107,43 @@ fn written(v: View, len: usize) -> bool
     }
 }
 
-// Whether n elements down a view's first column are in bounds.
-fn reaches(v: View, n: usize, len: usize) -> bool
-    requires { ⌜ Count n ⌝ }
-    ensures { λ r. ⌜ (r ≡ true → Reaching v n len) ⌝ }
+// The stride along a vector of length n; -1 for what is none.
+fn stride_of(v: View, n: usize) -> i64
+    ensures { λ z. ⌜ (down z ≡ 0 → Along v n z) ⌝ }
 {
-    if near(v.start) {
-        if short(v.rs) {
-            return v.start + reach(n, v.rs) < len;
+    if v.cols == 1 {
+        if v.rows == n {
+            return v.rs;
+        }
+        return -1;
+    }
+    if v.rows == 1 {
+        if v.cols == n {
+            return v.cs;
+        }
+    }
+    -1
+}
+
+// Whether n elements from a start, by a stride, are in bounds.
+fn reaches(start: usize, n: usize, z: i64, len: usize) -> bool
+    requires { ⌜ Count n ⌝ }
+    ensures { λ r. ⌜ (r ≡ true → Reaching start n z len) ⌝ }
+{
+    if near(start) {
+        if short(z) {
+            return start + reach(n, z) < len;
         }
     }
     false
 }
 
-// Whether a vector of length n, which is to stand as a column, is in bounds.
+// Whether a vector of length n is in bounds.
 fn vector(v: View, n: usize, len: usize) -> bool
     requires { ⌜ Count n ⌝ }
     ensures { λ r. ⌜ (r ≡ true → Accepted v len × (specs.vectorOf v n ≡ true)) ⌝ }
 {
-    if reaches(v, n, len) {
-        if v.rows == n {
-            return v.cols == 1;
-        }
-    }
-    false
+    reaches(v.start, n, stride_of(v, n), len)
 }
 
 // The same of a vector that is written, each element on a place of its own.
@@ -139,14 +151,12 @@ fn vector_target(v: View, n: usize, len: usize) -> bool
     requires { ⌜ Count n ⌝ }
     ensures { λ r. ⌜ (r ≡ true → Accepted v len × (specs.vectorOf v n ≡ true) × (overlaps v ≡ false)) ⌝ }
 {
-    if v.rows == n {
-        if v.cols == 1 {
-            if reaches(v, n, len) {
-                return v.rs != 0;
-            }
-        }
+    let z = stride_of(v, n);
+    if reaches(v.start, n, z, len) {
+        z != 0
+    } else {
+        false
     }
-    false
 }
 
 // Whether a matrix is square.

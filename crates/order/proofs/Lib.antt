@@ -2,6 +2,7 @@
 pub mod WalkLaws
 pub mod InOrder
 pub mod Systems
+pub mod PlaceLaws
 pub mod Judged
 pub mod Lines
 pub mod Solves

@@ -3,7 +3,7 @@ use Prim.Native.Nat.{ℕ, zero, suc, _+_, _*_, _/_, _%_, _≤_, _<_}
 use mathlib.Core.Bool.{Bool, true, false, not, cond}
 use mathlib.Core.List.{List}
 use mathlib.Core.Path.{_≡_, refl, ap, sym, subst, _∙_}
-use native.Mathlib.Nat.{mul-comm, mod-lt, div-add-mod', mul-le-mul-right}
+use native.Mathlib.Nat.{mul-comm, mod-lt, div-add-mod'}
 use native.Mathlib.Omega.{arith}
 use borrow.Author.Tests.{lt-ltb, le-ltb, ltb-true, leb-true}
 use lib.Arith.{digits-div, digits-mod, digits-lt}
@@ -25,17 +25,17 @@ use Rattle.slab.specs.Distinct.{Inside, Distinct}
 use Rattle.slab.proofs.UpdateLaws.{rows-both, update-mask, update-shown}
 use Rattle.blas.specs.Matrix.{Matrix}
 use Rattle.blas.specs.Triangular.{opUpper, triangularDot}
-use Rattle.blas.specs.Substitution.{unknownAt, unknown, lastFirst, inOrder, turnOf, lineOf}
+use Rattle.blas.specs.Substitution.{unknownAt, unknown, lastFirst, inOrder}
 use Rattle.blas.proofs.OverLaws.{over-cong}
-use Rattle.blas.proofs.SubstitutionLaws.{in-order-lt, in-order-twice, turn-lt, factor-pos, quotient-lt}
+use Rattle.blas.proofs.SubstitutionLaws.{in-order-lt, in-order-twice, factor-pos, quotient-lt}
 use Rattle.order.specs.declared.System.{System}
 use Rattle.order.specs.Walk.{walk}
 use Rattle.order.specs.Triangles.{linesView, systemOf}
-use Rattle.order.specs.Multiply.{turn, line, lineSum, multiplyOne, multiplyColumn, multiplyAll}
+use Rattle.order.specs.Multiply.{lineSum, multiplyOne, multiplyAll}
 use Rattle.order.proofs.WalkLaws.{walk-cong, walk-nested}
 use Rattle.order.proofs.InOrder.{Swaps, one-more}
 use Rattle.number.proofs.Commutes.{Commutes}
-use Rattle.order.proofs.Systems.{lines-index}
+use Rattle.order.proofs.Systems.{turn, line, lines-index}
 use Rattle.order.proofs.LineSums.{goesInto, weighs, lineDot, line-sum-is}
 
 -- ---- an element of a line, as a row and a column
@@ -65,52 +65,65 @@ at-dot : (K : Kind) (side : Side) (uplo : UpLo) (t : Trans) (diag : Diag) (a : M
 at-dot K Left uplo t diag a v s q l = refl
 at-dot K Right uplo t diag a v s q l = refl
 
--- ---- how many elements come before (r, c)
+-- ---- how many elements come before (r, c), line after line
 
-line-lt : (side : Side) (v : View) (n : ℕ) → n < v .rows * v .cols → lineOf side v n < linesOf side v
-line-lt Left v n h = quotient-lt n (v .rows) (v .cols) h
-line-lt Right v n h = mod-lt n (factor-pos n (v .rows) (v .cols) h)
+turn-in : (side : Side) (v : View) (r c : ℕ) → r < v .rows → c < v .cols → (turn side r c < orderOf side v) × (line side r c < linesOf side v)
+turn-in Left v r c h g = (h, g)
+turn-in Right v r c h g = (g, h)
+
+at-turn : (side : Side) (r c : ℕ) → (rowAt side (turn side r c) (line side r c) ≡ r) × (colAt side (turn side r c) (line side r c) ≡ c)
+at-turn Left r c = (refl, refl)
+at-turn Right r c = (refl, refl)
 
 abbrev rank : Side → Bool → View → ℕ → ℕ → ℕ
-rank Left last v r c = c * v .rows + inOrder last (v .rows) r
-rank Right last v r c = inOrder last (v .cols) c * v .rows + r
+rank side last v r c = line side r c * orderOf side v + inOrder last (orderOf side v) (turn side r c)
 
-rank-below : (side : Side) (last : Bool) (v : View) (r c : ℕ) → r < v .rows → c < v .cols → rank side last v r c < v .rows * v .cols
-rank-below Left last v r c h g =
-    subst (λ (x : ℕ). rank Left last v r c < x) (mul-comm (v .cols) (v .rows)) (digits-lt g (in-order-lt last (v .rows) r h))
-rank-below Right last v r c h g =
-    subst (λ (x : ℕ). rank Right last v r c < x) (mul-comm (v .cols) (v .rows)) (digits-lt (in-order-lt last (v .cols) c g) h)
+rank-of : (side : Side) (last : Bool) (v : View) (q l : ℕ) → rank side last v (rowAt side q l) (colAt side q l) ≡ l * orderOf side v + inOrder last (orderOf side v) q
+rank-of Left last v q l = refl
+rank-of Right last v q l = refl
 
-module _ (last : Bool) (v : View) (n : ℕ) (h : n < v .rows * v .cols) where
+-- elements in all
+abbrev total : Side → View → ℕ
+total side v = orderOf side v * linesOf side v
+
+rank-below : (side : Side) (last : Bool) (v : View) (r c : ℕ) → r < v .rows → c < v .cols → rank side last v r c < total side v
+rank-below side last v r c h g =
+    let w = turn-in side v r c h g in
+    subst (λ (x : ℕ). rank side last v r c < x) (mul-comm (linesOf side v) (orderOf side v)) (digits-lt (w .1) (in-order-lt last (orderOf side v) (turn side r c) (w .0)))
+
+module _ (side : Side) (last : Bool) (v : View) (n : ℕ) (h : n < total side v) where
+  abbrev m : ℕ
+  m = orderOf side v
+
   -- the n-th element
-  abbrev nth : Side → ℕ
-  nth side = inOrder last (orderOf side v) (turnOf side v n)
+  abbrev nth : ℕ
+  nth = inOrder last m (n % m)
 
-  rank-at : (side : Side) → rank side last v (rowAt side (nth side) (lineOf side v n)) (colAt side (nth side) (lineOf side v n)) ≡ n
-  rank-at Left = ap (λ (x : ℕ). n / v .rows * v .rows + x) (in-order-twice last (v .rows) (n % v .rows) (turn-lt Left v n h)) ∙ div-add-mod' n (v .rows)
-  rank-at Right = ap (λ (x : ℕ). x * v .rows + n % v .rows) (in-order-twice last (v .cols) (n / v .rows) (turn-lt Right v n h)) ∙ div-add-mod' n (v .rows)
+  turn-lt : n % m < m
+  turn-lt = mod-lt n (factor-pos n m (linesOf side v) h)
+
+  line-lt : n / m < linesOf side v
+  line-lt = quotient-lt n m (linesOf side v) h
+
+  rank-at : rank side last v (rowAt side nth (n / m)) (colAt side nth (n / m)) ≡ n
+  rank-at = rank-of side last v nth (n / m) ∙ ap (λ (x : ℕ). n / m * m + x) (in-order-twice last m (n % m) turn-lt) ∙ div-add-mod' n m
 
   -- is the only one of its rank
-  rank-only : (side : Side) (r c : ℕ) → r < v .rows → c < v .cols → rank side last v r c ≡ n
-      → (r ≡ rowAt side (nth side) (lineOf side v n)) × (c ≡ colAt side (nth side) (lineOf side v n))
-  rank-only Left r c p q e = (
-    sym (in-order-twice last (v .rows) r p) ∙ ap (inOrder last (v .rows)) (sym (digits-mod c (in-order-lt last (v .rows) r p)) ∙ ap (λ (x : ℕ). x % v .rows) e),
-    sym (digits-div c (in-order-lt last (v .rows) r p)) ∙ ap (λ (x : ℕ). x / v .rows) e,
-  )
-  rank-only Right r c p q e = (
-    sym (digits-mod (inOrder last (v .cols) c) p) ∙ ap (λ (x : ℕ). x % v .rows) e,
-    sym (in-order-twice last (v .cols) c q) ∙ ap (inOrder last (v .cols)) (sym (digits-div (inOrder last (v .cols) c) p) ∙ ap (λ (x : ℕ). x / v .rows) e),
-  )
+  rank-only : (r c : ℕ) → r < v .rows → c < v .cols → rank side last v r c ≡ n → (r ≡ rowAt side nth (n / m)) × (c ≡ colAt side nth (n / m))
+  rank-only r c p q e =
+      let w = turn-in side v r c p q in
+      let u : turn side r c ≡ nth = sym (in-order-twice last m (turn side r c) (w .0)) ∙ ap (inOrder last m) (sym (digits-mod (line side r c) (in-order-lt last m (turn side r c) (w .0))) ∙ ap (λ (x : ℕ). x % m) e) in
+      let k : line side r c ≡ n / m = sym (digits-div (line side r c) (in-order-lt last m (turn side r c) (w .0))) ∙ ap (λ (x : ℕ). x / m) e in
+      (sym (at-turn side r c .0) ∙ (λ i. rowAt side (u i) (k i)), sym (at-turn side r c .1) ∙ (λ i. colAt side (u i) (k i)))
 
   -- comes no later than one of its line that is no earlier in order
-  rank-later : (side : Side) (p : ℕ) → turnOf side v n ≤ inOrder last (orderOf side v) p → n ≤ rank side last v (rowAt side p (lineOf side v n)) (colAt side p (lineOf side v n))
-  rank-later Left p g =
-      let e : n / v .rows * v .rows + n % v .rows ≡ n = div-add-mod' n (v .rows) in
-      omega (arith, g, e)
-  rank-later Right p g =
-      let k : n / v .rows * v .rows ≤ inOrder last (v .cols) p * v .rows = mul-le-mul-right (v .rows) g in
-      let e : n / v .rows * v .rows + n % v .rows ≡ n = div-add-mod' n (v .rows) in
-      omega (arith, k, e)
+  rank-later : (p : ℕ) → n % m ≤ inOrder last m p → n ≤ rank side last v (rowAt side p (n / m)) (colAt side p (n / m))
+  rank-later p g = subst (λ (x : ℕ). n ≤ x) (sym (rank-of side last v p (n / m))) (above (inOrder last m p) g)
+    where
+      above : (x : ℕ) → n % m ≤ x → n ≤ n / m * m + x
+      above x g =
+          let e : n / m * m + n % m ≡ n = div-add-mod' n m in
+          omega (arith, g, e)
 
 -- what goes into an element comes no earlier
 goes-later : (side : Side) (uplo : UpLo) (t : Trans) (m k p : ℕ) → k < m → p < m → goesInto side uplo t (inOrder (not (lastFirst side uplo t)) m k) p ≡ true
@@ -163,27 +176,33 @@ module _ (K : Kind) (L : SlabLaws K) (W : Swaps K) (C : Commutes K) (side : Side
       s₀
       refl
 
-  module _ (n : ℕ) (h : n < v .rows * v .cols) where
+  module _ (n : ℕ) (h : n < total side v) where
+    abbrev turnN : ℕ
+    turnN = n % orderOf side v
+
+    abbrev lineN : ℕ
+    lineN = n / orderOf side v
+
     abbrev q : ℕ
-    q = inOrder last (orderOf side v) (turnOf side v n)
+    q = inOrder last (orderOf side v) turnN
 
     abbrev r : ℕ
-    r = rowAt side q (lineOf side v n)
+    r = rowAt side q lineN
 
     abbrev c : ℕ
-    c = colAt side q (lineOf side v n)
+    c = colAt side q lineN
 
-    k-in : turnOf side v n < orderOf side v
-    k-in = turn-lt side v n h
+    k-in : turnN < orderOf side v
+    k-in = turn-lt side last v n h
 
     q-in : q < orderOf side v
-    q-in = in-order-lt last (orderOf side v) (turnOf side v n) k-in
+    q-in = in-order-lt last (orderOf side v) turnN k-in
 
     shown : (r < v .rows) × (c < v .cols)
-    shown = at-in side v q (lineOf side v n) q-in (line-lt side v n h)
+    shown = at-in side v q lineN q-in (line-lt side last v n h)
 
     like : (r' c' : ℕ) → r' < v .rows → c' < v .cols → (r' ≡ r → c' ≡ c → ⊥) → done (suc n) r' c' ≡ done n r' c'
-    like r' c' p g ne = go (rank side last v r' c') (λ e. let w = rank-only last v n h side r' c' p g e in ne (w .0) (w .1))
+    like r' c' p g ne = go (rank side last v r' c') (λ e. let w = rank-only side last v n h r' c' p g e in ne (w .0) (w .1))
       where
         go : (x : ℕ) → (x ≡ n → ⊥) → ltb x (suc n) ≡ ltb x n
         go x d = both-ways (ltb x (suc n)) (ltb x n) (λ e. lt-ltb x n (below x d (ltb-true x (suc n) e))) (λ e. lt-ltb x (suc n) (above x (ltb-true x n e)))
@@ -195,31 +214,31 @@ module _ (K : Kind) (L : SlabLaws K) (W : Swaps K) (C : Commutes K) (side : Side
             above x g = omega arith
 
     -- what goes into the n-th element is as lent
-    unwritten : (p : ℕ) → p < orderOf side v → goesInto side uplo t q p ≡ true → unknown K side (after n) v p (lineOf side v n) ≡ unknown K side s₀ v p (lineOf side v n)
+    unwritten : (p : ℕ) → p < orderOf side v → goesInto side uplo t q p ≡ true → unknown K side (after n) v p lineN ≡ unknown K side s₀ v p lineN
     unwritten p g e =
-        let w = at-in side v p (lineOf side v n) g (line-lt side v n h) in
-        let later = rank-later last v n h side p (goes-later side uplo t (orderOf side v) (turnOf side v n) p k-in g e) in
-        ap (K .at (after n)) (at-index side v p (lineOf side v n))
-        ∙ update-shown K L v (done n) (λ r c x. product r c) s₀ inside distinct (rowAt side p (lineOf side v n)) (colAt side p (lineOf side v n)) (w .0) (w .1)
-        ∙ ap (λ (b : Bool). cond b (product (rowAt side p (lineOf side v n)) (colAt side p (lineOf side v n))) (elem K s₀ v (rowAt side p (lineOf side v n)) (colAt side p (lineOf side v n)))) (le-ltb _ n later)
-        ∙ sym (ap (K .at s₀) (at-index side v p (lineOf side v n)))
+        let w = at-in side v p lineN g (line-lt side last v n h) in
+        let later = rank-later side last v n h p (goes-later side uplo t (orderOf side v) turnN p k-in g e) in
+        ap (K .at (after n)) (at-index side v p lineN)
+        ∙ update-shown K L v (done n) (λ r c x. product r c) s₀ inside distinct (rowAt side p lineN) (colAt side p lineN) (w .0) (w .1)
+        ∙ ap (λ (b : Bool). cond b (product (rowAt side p lineN) (colAt side p lineN)) (elem K s₀ v (rowAt side p lineN) (colAt side p lineN))) (le-ltb _ n later)
+        ∙ sym (ap (K .at s₀) (at-index side v p lineN))
 
-    same-dot : lineDot K side uplo t diag a v (after n) q (lineOf side v n) ≡ triangularDot K side uplo t diag (orderOf side v) a (elem K s₀ v) r c
+    same-dot : lineDot K side uplo t diag a v (after n) q lineN ≡ triangularDot K side uplo t diag (orderOf side v) a (elem K s₀ v) r c
     same-dot =
-        over-cong K (λ p. goesInto side uplo t q p) (λ p. weighs K side diag t a q p (unknown K side (after n) v p (lineOf side v n)))
-        (λ p. weighs K side diag t a q p (unknown K side s₀ v p (lineOf side v n)))
+        over-cong K (λ p. goesInto side uplo t q p) (λ p. weighs K side diag t a q p (unknown K side (after n) v p lineN))
+        (λ p. weighs K side diag t a q p (unknown K side s₀ v p lineN))
         (orderOf side v)
         (λ p g e. ap (weighs K side diag t a q p) (unwritten p g e))
-        ∙ at-dot K side uplo t diag a v s₀ q (lineOf side v n)
+        ∙ at-dot K side uplo t diag a v s₀ q lineN
 
-    next : (s : List (K .Cell)) → s ≡ after n → multiplyOne K system sa start (turnOf side v n) (lineOf side v n) s ≡ after (suc n)
+    next : (s : List (K .Cell)) → s ≡ after n → multiplyOne K system sa start turnN lineN s ≡ after (suc n)
     unfolding multiplyOne
     next s e =
-        (λ i. K .put (e i) (index (linesView side v) (inOrder last (lines-rows side v i) (turnOf side v n)) (lineOf side v n)) (start (lineSum K system sa (e i) (inOrder last (lines-rows side v i) (turnOf side v n)) (lineOf side v n))))
-        ∙ (λ i. K .put (after n) ((lines-index side v q (lineOf side v n) ∙ at-index side v q (lineOf side v n)) i)
-        (start ((line-sum-is K C uplo t diag va v sa (after n) q (lineOf side v n) side q-in ∙ same-dot) i)))
+        (λ i. K .put (e i) (index (linesView side v) (inOrder last (lines-rows side v i) turnN) lineN) (start (lineSum K system sa (e i) (inOrder last (lines-rows side v i) turnN) lineN)))
+        ∙ (λ i. K .put (after n) ((lines-index side v q lineN ∙ at-index side v q lineN) i)
+        (start ((line-sum-is K C uplo t diag va v sa (after n) q lineN side q-in ∙ same-dot) i)))
         ∙ sym (one-more K W v (done n) (done (suc n)) product r c (shown .0) (shown .1) distinct
-        (lt-ltb _ (suc n) (is-last (rank-at last v n h side))) (le-ltb _ n (is-not (rank-at last v n h side))) like s₀)
+        (lt-ltb _ (suc n) (is-last (rank-at side last v n h))) (le-ltb _ n (is-not (rank-at side last v n h))) like s₀)
       where
         is-last : {x : ℕ} → x ≡ n → x < suc n
         is-last e = omega arith
@@ -229,28 +248,29 @@ module _ (K : Kind) (L : SlabLaws K) (W : Swaps K) (C : Commutes K) (side : Side
 
   -- the n-th step
   abbrev nthStep : ℕ → List (K .Cell) → List (K .Cell)
-  nthStep n = multiplyOne K system sa start (turnOf side v n) (lineOf side v n)
+  nthStep n = multiplyOne K system sa start (n % orderOf side v) (n / orderOf side v)
 
-  so-far : (n : ℕ) → n ≤ v .rows * v .cols → walk n nthStep s₀ ≡ after n
+  so-far : (n : ℕ) → n ≤ total side v → walk n nthStep s₀ ≡ after n
   unfolding walk
   so-far zero h = sym none-done
   so-far (suc n) h = next n h (walk n nthStep s₀) (so-far n (omega arith))
 
-  numbered : (side' : Side) (i j : ℕ) → i < v .rows → (turn side' i j ≡ turnOf side' v (j * v .rows + i)) × (line side' i j ≡ lineOf side' v (j * v .rows + i))
-  numbered Left i j h = (sym (digits-mod j h), sym (digits-div j h))
-  numbered Right i j h = (sym (digits-div j h), sym (digits-mod j h))
+  lines-sizes : (side' : Side) → ((linesView side' v) .rows ≡ orderOf side' v) × ((linesView side' v) .cols ≡ linesOf side' v)
+  lines-sizes Left = (refl, refl)
+  lines-sizes Right = (refl, refl)
 
   pub multiplied-all : multiplyAll K system sa start s₀ ≡ update K v everywhere (λ r c x. product r c) s₀
   multiplied-all =
-      walk-cong (λ j. multiplyColumn K system sa start j (v .rows)) (λ j. walk (v .rows) (λ i. nthStep (j * v .rows + i))) (v .cols)
-      (λ j g s. walk-cong (λ i. multiplyOne K system sa start (turn side i j) (line side i j)) (λ i. nthStep (j * v .rows + i)) (v .rows)
-      (λ i h s'. let e = numbered side i j h in λ d. multiplyOne K system sa start (e .0 d) (e .1 d) s')
+      (λ i. walk (lines-sizes side .1 i) (λ l. walk (lines-sizes side .0 i) (λ k. multiplyOne K system sa start k l)) s₀)
+      ∙ walk-cong (λ l. walk (orderOf side v) (λ k. multiplyOne K system sa start k l)) (λ l. walk (orderOf side v) (λ k. nthStep (l * orderOf side v + k))) (linesOf side v)
+      (λ l g s. walk-cong (λ k. multiplyOne K system sa start k l) (λ k. nthStep (l * orderOf side v + k)) (orderOf side v)
+      (λ k h s'. λ d. multiplyOne K system sa start (sym (digits-mod l h) d) (sym (digits-div l h) d) s')
       s)
       s₀
-      ∙ walk-nested nthStep (v .rows) (v .cols) s₀
-      ∙ ap (λ (n : ℕ). walk n nthStep s₀) (mul-comm (v .cols) (v .rows))
-      ∙ so-far (v .rows * v .cols) (omega arith)
-      ∙ update-mask K v (done (v .rows * v .cols)) (λ r c x. product r c) everywhere (λ r c p g. lt-ltb _ (v .rows * v .cols) (rank-below side last v r c p g)) s₀
+      ∙ walk-nested nthStep (orderOf side v) (linesOf side v) s₀
+      ∙ ap (λ (n : ℕ). walk n nthStep s₀) (mul-comm (linesOf side v) (orderOf side v))
+      ∙ so-far (total side v) (omega arith)
+      ∙ update-mask K v (done (total side v)) (λ r c x. product r c) everywhere (λ r c p g. lt-ltb _ (total side v) (rank-below side last v r c p g)) s₀
 
 -- ---- as the engine meets it
 
@@ -264,8 +284,3 @@ module _ (K : Kind) (y : System) (a : List (K .Cell)) (start : K .Elem → K .El
       e
       ∙ (λ i. K .put s (placed i) ((weighed ∙ ap start summed) i))
       ∙ (λ i. K .put s (index (y .b) (found i) l) (start (lineSum K y a s (found i) l)))
-
-  -- element (i, j), of turn k and line l
-  pub one-at : (k l i j : ℕ) (s s' : List (K .Cell)) → k ≡ turn (y .side) i j → l ≡ line (y .side) i j → s' ≡ multiplyOne K y a start k l s
-      → s' ≡ multiplyOne K y a start (turn (y .side) i j) (line (y .side) i j) s
-  one-at k l i j s s' turned lined e = e ∙ (λ d. multiplyOne K y a start (turned d) (lined d) s)

@@ -35,13 +35,12 @@ use Rattle.blas.proofs.SubstitutionLaws.{in-order-lt, in-order-twice, first-is,
 use Rattle.order.specs.declared.System.{System}
 use Rattle.order.specs.Walk.{walk}
 use Rattle.order.specs.Triangles.{linesView, systemOf, coefficient}
-use Rattle.order.specs.Multiply.{turn, line}
 use Rattle.order.specs.Solve.{byDiag, zeroDiag, solveOne, solveUnknowns, zeroAfter, firstZero, stops, answered, linesSolved, Solved}
 use Rattle.order.proofs.WalkLaws.{walk-cong, walk-nested, walk-rounds}
 use Rattle.order.proofs.InOrder.{Swaps}
 use Rattle.number.proofs.Commutes.{Commutes}
 use Rattle.order.proofs.Lines.{line-after-line}
-use Rattle.order.proofs.Systems.{opSided, coefficient-is, diagonal-is, lines-index, lines-elem}
+use Rattle.order.proofs.Systems.{opSided, coefficient-is, diagonal-is, turn, line, lines-index, lines-elem}
 
 -- ---- the first number at which a test passes, as a loop that counts by one meets it
 

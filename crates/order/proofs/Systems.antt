@@ -23,7 +23,6 @@ use Rattle.blas.specs.Substitution.{unknownAt, unknown}
 use Rattle.blas.proofs.OpLaws.{op-elem, transposed-elem}
 use Rattle.order.specs.declared.System.{System}
 use Rattle.order.specs.Triangles.{linesView, systemOf, coefficient}
-use Rattle.order.specs.Multiply as multiply
 use Rattle.order.specs.Ready.{Pivots, Ready, ReadyAt, Sided}
 
 -- ---- what is read
@@ -48,6 +47,15 @@ module _ (K : Kind) (uplo : UpLo) (t : Trans) (diag : Diag) (va vb : View) (a : 
   pub diagonal-is : (side : Side) (q : ℕ) → elem K a (linesView side (opViewOf t va)) q q ≡ elem K a va q q
   diagonal-is Left q = op-diagonal t q
   diagonal-is Right q = transposed-elem K a (opViewOf t va) q q ∙ op-diagonal t q
+
+-- element (i, j) of B: which element of its line it is, and its line
+abbrev pub turn : Side → ℕ → ℕ → ℕ
+turn Left i j = i
+turn Right i j = j
+
+abbrev pub line : Side → ℕ → ℕ → ℕ
+line Left i j = j
+line Right i j = i
 
 -- unknown p of line l
 pub lines-index : (side : Side) (v : View) (p l : ℕ) → index (linesView side v) p l ≡ unknownAt side v p l
@@ -92,17 +100,7 @@ module _ (uplo : UpLo) (t : Trans) (diag : Diag) (va : View) (la : ℕ) (vb : Vi
   ready-of side s = record {
     pivots = record { a = lines-accepted side (opViewOf t va) la (op-accepted t va la (s .a)); rows = square-rows side t s; cols = square-cols side t s };
     b = lines-accepted side vb lb (s .b);
-    turns = turn-in side;
-    lines = line-in side;
   }
-    where
-      turn-in : (side : Side) (i j : ℕ) → i < vb .rows → j < vb .cols → multiply.turn side i j < (linesView side vb) .rows
-      turn-in Left i j h g = h
-      turn-in Right i j h g = g
-
-      line-in : (side : Side) (i j : ℕ) → i < vb .rows → j < vb .cols → multiply.line side i j < (linesView side vb) .cols
-      line-in Left i j h g = g
-      line-in Right i j h g = h
 
   -- the system that a call makes, on a slab that keeps its length
   pub ready-made : (side : Side) (y : System) (lb' : ℕ) → Sided side va la vb lb → y ≡ systemOf side uplo t diag va vb → lb' ≡ lb → Ready y la lb'
@@ -135,14 +133,6 @@ module _ (y : System) (la lb : ℕ) where
         col = subst (λ (m : ℕ). from + p < m) (sym (r .pivots .cols)) (omega arith);
       };
       right = λ p k. unknown-shown (from + p) l (omega arith) g;
-    }
-
-    -- element (i, j) of B, of turn k and line l
-    pub ready-at : (k l i j : ℕ) → i < y .rows → j < y .cols → k ≡ multiply.turn (y .side) i j → l ≡ multiply.line (y .side) i j → ReadyAt y la lb k l
-    ready-at k l i j h g turned lined = record {
-      ready = r;
-      unknown = subst (λ (n : ℕ). n < y .b .rows) (sym turned) (r .turns i j h g);
-      line = subst (λ (n : ℕ). n < y .b .cols) (sym lined) (r .lines i j h g);
     }
 
   -- unknown q, or the one that comes after q others, of line l, on a slab that keeps its length

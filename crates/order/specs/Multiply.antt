@@ -5,8 +5,6 @@ use mathlib.Core.List.{List}
 use Rattle.number.specs.Kind.{Kind}
 use Rattle.view.specs.declared.Diag.{Diag}
 use Rattle.view.specs.declared.Diag.the-variants.{NonUnit, Unit}
-use Rattle.view.specs.declared.Side.{Side}
-use Rattle.view.specs.declared.Side.the-variants.{Left, Right}
 use Rattle.view.specs.Place.{index}
 use Rattle.slab.specs.Elem.{elem}
 use Rattle.slab.specs.Run.{more}
@@ -14,15 +12,6 @@ use Rattle.blas.specs.Substitution.{inOrder}
 use Rattle.order.specs.declared.System.{System}
 use Rattle.order.specs.Triangles.{coefficient}
 use Rattle.order.specs.Walk.{walk}
-
--- element (i, j) of B: how many elements of its line come before it, and its line
-abbrev pub turn : Side → ℕ → ℕ → ℕ
-turn Left i j = i
-turn Right i j = j
-
-abbrev pub line : Side → ℕ → ℕ → ℕ
-line Left i j = j
-line Right i j = i
 
 -- a diagonal element c, or ONE
 abbrev pub ownDiag : (K : Kind) → Diag → K .Elem → K .Elem
@@ -50,9 +39,9 @@ module _ (K : Kind) (y : System) (a : List (K .Cell)) where
     multiplyOne k l s =
         K .put s (index (y .b) (inOrder (not (y .last)) (y .b .rows) k) l) (start (lineSum s (inOrder (not (y .last)) (y .b .rows) k) l))
 
-    -- the first m rows of column j of B, and all of B
-    abbrev pub multiplyColumn : ℕ → ℕ → List (K .Cell) → List (K .Cell)
-    multiplyColumn j m s = walk m (λ i. multiplyOne (turn (y .side) i j) (line (y .side) i j)) s
+    -- the first m elements of line l, and all of B
+    abbrev pub multiplyLine : ℕ → ℕ → List (K .Cell) → List (K .Cell)
+    multiplyLine l m s = walk m (λ k. multiplyOne k l) s
 
     abbrev pub multiplyAll : List (K .Cell) → List (K .Cell)
-    multiplyAll s = walk (y .cols) (λ j. multiplyColumn j (y .rows)) s
+    multiplyAll s = walk (y .b .cols) (λ l. multiplyLine l (y .b .rows)) s

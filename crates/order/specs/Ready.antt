@@ -7,7 +7,6 @@ use Rattle.view.specs.Checks.{orderOf}
 use Rattle.view.specs.Steps.{Accepted}
 use Rattle.slab.specs.Distinct.{Distinct}
 use Rattle.order.specs.declared.System.{System}
-use Rattle.order.specs.Multiply.{turn, line}
 
 -- the coefficients are square, of the order that a line has unknowns
 pub record Pivots (y : System) (la : ℕ) : Type 0 where
@@ -18,8 +17,6 @@ pub record Pivots (y : System) (la : ℕ) : Type 0 where
 pub record Ready (y : System) (la lb : ℕ) : Type 0 where
   pub pivots : Pivots y la
   pub b : Accepted (y .b) lb
-  pub turns : (i j : ℕ) → i < y .rows → j < y .cols → turn (y .side) i j < y .b .rows
-  pub lines : (i j : ℕ) → i < y .rows → j < y .cols → line (y .side) i j < y .b .cols
 
 -- unknown q, or the one that comes after q others, of line l
 pub record ReadyAt (y : System) (la lb q l : ℕ) : Type 0 where

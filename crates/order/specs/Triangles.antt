@@ -28,8 +28,6 @@ systemOf side uplo t diag a b = record {
   last = lastFirst side uplo t;
   a = linesView side (opViewOf t a);
   b = linesView side b;
-  rows = b .rows;
-  cols = b .cols;
 }
 
 -- what unknown p weighs in the equation of unknown q

@@ -61,7 +61,6 @@ use view::op_view;
 use view::passed;
 use view::place;
 use view::rows;
-use view::upright;
 
 // Element (i, j) of a view, conjugated or not.
 fn at(conjugated: bool, s: &[f64], v: View, i: usize, j: usize) -> Complex
@@ -316,9 +315,7 @@ pub fn gemv(
     ensures { λ r. ⌜ Gives complex (Gemv.gemv complex trans alpha (lent complex (now (a .entry)) va) (lent complex (now (x .entry)) vx) beta (lent complex (now (y .entry)) vy)) r (now (y .exit)) ⌝ }
 {
     let left = op_view(trans, va);
-    let stood = upright(vx);
-    let target = upright(vy);
-    let quick = quick_gemv(left, a.len() / 2, stood, x.len() / 2, target, y.len() / 2);
+    let quick = quick_gemv(left, a.len() / 2, vx, x.len() / 2, vy, y.len() / 2);
     let answer = check_gemv(
         quick,
         trans,
@@ -356,9 +353,7 @@ pub fn hemv(
 ) -> Answer
     ensures { λ r. ⌜ Gives complex (Hemv.hemv complex uplo alpha (lent complex (now (a .entry)) va) (lent complex (now (x .entry)) vx) beta (lent complex (now (y .entry)) vy)) r (now (y .exit)) ⌝ }
 {
-    let stood = upright(vx);
-    let target = upright(vy);
-    let quick = quick_hemv(va, a.len() / 2, stood, x.len() / 2, target, y.len() / 2);
+    let quick = quick_hemv(va, a.len() / 2, vx, x.len() / 2, vy, y.len() / 2);
     let answer = check_hemv(quick, va, a.len() / 2, vx, x.len() / 2, vy, y.len() / 2);
     if passed(answer) {
         run_left_column(

@@ -62,7 +62,6 @@ use view::passed;
 use view::place;
 use view::row_step;
 use view::rows;
-use view::upright;
 
 // The sum with the terms of element (i, j) from `from` to before `end` added.
 fn add_run(
@@ -303,9 +302,7 @@ pub fn gemv(
     ensures { λ r. ⌜ Gives real64 (Gemv.gemv real64 trans (alpha .0) (lent real64 (now (a .entry)) va) (lent real64 (now (x .entry)) vx) (beta .0) (lent real64 (now (y .entry)) vy)) r (now (y .exit)) ⌝ }
 {
     let left = op_view(trans, va);
-    let stood = upright(vx);
-    let target = upright(vy);
-    let quick = quick_gemv(left, a.len(), stood, x.len(), target, y.len());
+    let quick = quick_gemv(left, a.len(), vx, x.len(), vy, y.len());
     let answer = check_gemv(quick, trans, va, a.len(), vx, x.len(), vy, y.len());
     if passed(answer) {
         run_column(
@@ -334,9 +331,7 @@ pub fn hemv(
 ) -> Answer
     ensures { λ r. ⌜ Gives real64 (Hemv.hemv real64 uplo (alpha .0) (lent real64 (now (a .entry)) va) (lent real64 (now (x .entry)) vx) (beta .0) (lent real64 (now (y .entry)) vy)) r (now (y .exit)) ⌝ }
 {
-    let stood = upright(vx);
-    let target = upright(vy);
-    let quick = quick_hemv(va, a.len(), stood, x.len(), target, y.len());
+    let quick = quick_hemv(va, a.len(), vx, x.len(), vy, y.len());
     let answer = check_hemv(quick, va, a.len(), vx, x.len(), vy, y.len());
     if passed(answer) {
         run_left_column(

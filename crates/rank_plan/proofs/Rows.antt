@@ -1,7 +1,7 @@
 -- A loop over the columns of a row that are in the named triangle is the fold over the row: the fold skips the others.
 use Prim.Native.Nat.{ℕ, _+_, _≤_, _<_}
 use mathlib.Core.List.{List}
-use mathlib.Core.Path.{_≡_, refl, sym, subst}
+use mathlib.Core.Path.{_≡_, refl}
 use native.Mathlib.Omega.{arith}
 use Rattle.number.specs.Kind.{Kind}
 use Rattle.view.specs.declared.View.{View}
@@ -11,14 +11,7 @@ use Rattle.view.specs.Triangle.{inTriangle, firstCol, endCol}
 use Rattle.slab.specs.Update.{Change, row}
 use Rattle.slab.proofs.Columns.{columns-last, row-columns}
 pub use Rattle.slab.proofs.LoopLaws.{span, span-start, span-next}
-use Rattle.rank_plan.specs.Change.{replaced}
 use Rattle.rank_plan.specs.Ready.{Square}
-
--- a loop that steps by 1
-pub span-step : (K : Kind) (v : View) (u : Change K) (i a j step : ℕ) (s₀ s t : List (K .Cell)) → step ≡ 1 → a ≤ j → s ≡ span K v u i a j s₀
-    → t ≡ replaced K v i j (u i j) s → t ≡ span K v u i a (j + step) s₀
-span-step K v u i a j step s₀ s t e h p q =
-    subst (λ (k : ℕ). t ≡ span K v u i a (j + k) s₀) (sym e) (span-next K v u i a j s₀ s t h p q)
 
 -- ---- the columns in the named triangle
 

@@ -1,4 +1,4 @@
-// The plan of two matrices: the same for every number kind.
+// The plan of two matrices, and the step of a loop: the same for every number kind.
 
 ghost use mathlib.Core.Path.{_≡_};
 ghost use Prim.Native.Nat.{_≤_};

@@ -10,51 +10,42 @@ pub fn gemv(t: Trans, a: View, la: usize, b: View, lb: usize, c: View, lc: usize
     ensures { λ r. ⌜ r ≡ specs.gemvCheck t a la b lb c lc ⌝ }
 {
     let left = view::op_view(t, a);
-    let x = view::upright(b);
-    let y = view::upright(c);
-    let quick = judge::quick_gemv(left, la, x, lb, y, lc);
+    let quick = judge::quick_gemv(left, la, b, lb, c, lc);
     judge::check_gemv(quick, t, a, la, b, lb, c, lc)
 }
 
 pub fn hemv(a: View, la: usize, b: View, lb: usize, c: View, lc: usize) -> Answer
     ensures { λ r. ⌜ r ≡ specs.hemvCheck a la b lb c lc ⌝ }
 {
-    let x = view::upright(b);
-    let y = view::upright(c);
-    let quick = judge::quick_hemv(a, la, x, lb, y, lc);
+    let quick = judge::quick_hemv(a, la, b, lb, c, lc);
     judge::check_hemv(quick, a, la, b, lb, c, lc)
 }
 
 pub fn her(a: View, la: usize, b: View, lb: usize) -> Answer
     ensures { λ r. ⌜ r ≡ specs.herCheck a la b lb ⌝ }
 {
-    let x = view::upright(a);
-    let quick = judge::quick_her(x, la, b, lb);
+    let quick = judge::quick_her(a, la, b, lb);
     judge::check_her(quick, a, la, b, lb)
 }
 
 pub fn her2(a: View, la: usize, b: View, lb: usize, c: View, lc: usize) -> Answer
     ensures { λ r. ⌜ r ≡ specs.her2Check a la b lb c lc ⌝ }
 {
-    let x = view::upright(a);
-    let y = view::upright(b);
-    let quick = judge::quick_her2(x, la, y, lb, c, lc);
+    let quick = judge::quick_her2(a, la, b, lb, c, lc);
     judge::check_her2(quick, a, la, b, lb, c, lc)
 }
 
 pub fn trmv(a: View, la: usize, b: View, lb: usize) -> Answer
     ensures { λ r. ⌜ r ≡ specs.trmvCheck a la b lb ⌝ }
 {
-    let x = view::upright(b);
-    let quick = judge::quick_trmv(a, la, x, lb);
+    let quick = judge::quick_trmv(a, la, b, lb);
     judge::check_trmv(quick, a, la, b, lb)
 }
 
 pub fn trsv(a: View, la: usize, b: View, lb: usize) -> Answer
     ensures { λ r. ⌜ r ≡ specs.trsvCheck a la b lb ⌝ }
 {
-    let x = view::upright(b);
-    let quick = judge::quick_trmv(a, la, x, lb);
+    let quick = judge::quick_trmv(a, la, b, lb);
     judge::check_trsv(quick, a, la, b, lb)
 }
 

@@ -3,12 +3,13 @@
 ghost use mathlib.Core.Path.{_≡_};
 ghost use Prim.Native.Nat.{_≤_, _<_};
 ghost use Rattle.number.specs.Kind.{complex};
+ghost use Rattle.view.specs.Place.{index};
 ghost use Rattle.view.specs.Steps.{Accepted};
 ghost use Rattle.slab.specs.Elem.{elem, lent, Shows};
 ghost use Rattle.slab.specs.Run.{plain, more, Spans};
 ghost use Rattle.slab.specs.Update.{step, row, everywhere};
 ghost use Rattle.blas.specs.Outcome.{Gives};
-ghost use Rattle.blas.specs.Substitution.{less};
+ghost use Rattle.blas.specs.Substitution.{less, inOrder};
 ghost use Rattle.blas.specs.Trsm.{timesAlpha, sidedSolve};
 ghost use Rattle.blas.specs.Trsm;
 ghost use Rattle.blas.specs.Trsv;
@@ -19,6 +20,7 @@ ghost use Rattle.order.specs.Triangles as triangles;
 ghost use Rattle.order.specs.Triangles.{timesIf};
 ghost use Rattle.order.specs.Solve as solve;
 ghost use Rattle.order.specs.Multiply as multiply;
+ghost use Rattle.order.specs.Places.{PlacesAt, Begins};
 ghost use Rattle.order.specs.Ready.{Pivots, Ready, ReadyAt, Sided};
 use judge::check_trmm;
 use judge::check_trmv;
@@ -27,30 +29,44 @@ use judge::check_trsv;
 use judge::quick_trmm;
 use judge::quick_trmv;
 use number::Complex;
+use order::Places;
 use order::System;
 use order::in_order;
 use order::is_left;
 use order::least_solved;
-use order::line;
 use order::lines_solved;
+use order::onward;
+use order::places_of;
 use order::solved;
+use order::steps_of;
 use order::stops;
 use order::system_of;
-use order::turn;
 use slab::elem_complex;
+use slab::get_complex;
 use slab::put_complex;
+use std::num::wrapping_add_usize;
 use view::Answer;
 use view::Diag;
 use view::Side;
 use view::Trans;
 use view::UpLo;
 use view::View;
+use view::col_step;
 use view::cols;
 use view::column;
 use view::passed;
 use view::place;
+use view::row_step;
 use view::rows;
-use view::upright;
+
+// Element (i, j) of a view, at place k, conjugated or not.
+fn read(conjugated: bool, s: &[f64], v: View, i: usize, j: usize, k: usize) -> Complex
+    requires { ⌜ Shows v (complex .count (now s)) i j × (k ≡ index v i j) ⌝ }
+    ensures { λ r. ⌜ r ≡ plain complex conjugated (now (s .entry)) v i j ⌝ }
+{
+    let x = get_complex(s, k);
+    if conjugated { x.conj() } else { x }
+}
 
 // Element (i, j) of a view, conjugated or not.
 fn at(conjugated: bool, s: &[f64], v: View, i: usize, j: usize) -> Complex
@@ -113,23 +129,32 @@ fn add_run(
     sum
 }
 
-// x divided by pivot q.
-fn by_pivot(diag: Diag, conjugated: bool, a: &[f64], va: View, q: usize, x: Complex) -> Complex
-    requires { ⌜ Shows va (complex .count (now a)) q q ⌝ }
+// x divided by pivot q, which is at place `pivot`.
+fn by_pivot(
+    diag: Diag,
+    conjugated: bool,
+    a: &[f64],
+    va: View,
+    q: usize,
+    pivot: usize,
+    x: Complex,
+) -> Complex
+    requires { ⌜ Shows va (complex .count (now a)) q q × (pivot ≡ index va q q) ⌝ }
     ensures { λ r. ⌜ r ≡ solve.byDiag complex diag (plain complex conjugated (now (a .entry)) va q q) x ⌝ }
 {
     match diag {
-        Diag::NonUnit => x.div(at(conjugated, a, va, q, q)),
+        Diag::NonUnit => x.div(read(conjugated, a, va, q, q, pivot)),
         Diag::Unit => x,
     }
 }
 
-fn zero_pivot(diag: Diag, a: &[f64], va: View, q: usize) -> bool
-    requires { ⌜ Shows va (complex .count (now a)) q q ⌝ }
+// Whether pivot q, which is at place `pivot`, is zero.
+fn zero_pivot(diag: Diag, a: &[f64], va: View, q: usize, pivot: usize) -> bool
+    requires { ⌜ Shows va (complex .count (now a)) q q × (pivot ≡ index va q q) ⌝ }
     ensures { λ r. ⌜ r ≡ solve.zeroDiag complex diag (elem complex (now (a .entry)) va q q) ⌝ }
 {
     match diag {
-        Diag::NonUnit => elem_complex(a, va, q, q).is_zero(),
+        Diag::NonUnit => get_complex(a, pivot).is_zero(),
         Diag::Unit => false,
     }
 }
@@ -152,33 +177,97 @@ fn solve_one(sys: System, times: bool, alpha: Complex, a: &[f64], b: &mut [f64],
     let from = least_solved(sys.last, m, k);
     let x = times_if(times, alpha, elem_complex(b, sys.b, q, l));
     let rest = reduce(sys.conjugated, a, sys.a, b, sys.b, q, l, from, k, x);
-    let y = by_pivot(diag, sys.conjugated, a, sys.a, q, rest);
+    let y = by_pivot(diag, sys.conjugated, a, sys.a, q, place(sys.a, q, q), rest);
     put_complex(b, place(sys.b, q, l), y);
 }
 
-// The unknown of a vector that comes after k others, solved.
-fn solve_next(sys: System, a: &[f64], b: &mut [f64], k: usize)
-    requires { ⌜ ReadyAt sys (complex .count (now a)) (complex .count (now b)) k 0 ⌝ }
+// x less the term of row q of a and a vector at p, whose factors are at places c and u.
+fn less_at(
+    conjugated: bool,
+    a: &[f64],
+    va: View,
+    b: &[f64],
+    vb: View,
+    q: usize,
+    p: usize,
+    c: usize,
+    u: usize,
+    x: Complex,
+) -> Complex
+    requires { ⌜ Shows va (complex .count (now a)) q p × Shows vb (complex .count (now b)) p 0 × (c ≡ index va q p) × (u ≡ index vb p 0) ⌝ }
+    ensures { λ r. ⌜ r ≡ complex .sub x (complex .mul (plain complex conjugated (now (a .entry)) va q p) (elem complex (now (b .entry)) vb p 0)) ⌝ }
+{
+    x.sub(read(conjugated, a, va, q, p, c).mul(get_complex(b, u)))
+}
+
+// x less n such terms of a vector, the first from places `first` and `solved` on.
+fn reduce_along(
+    conjugated: bool,
+    a: &[f64],
+    va: View,
+    b: &[f64],
+    vb: View,
+    q: usize,
+    from: usize,
+    n: usize,
+    x: Complex,
+    first: usize,
+    solved: usize,
+) -> Complex
+    requires { ⌜ Spans va (complex .count (now a)) vb (complex .count (now b)) q 0 from n × Begins va vb q from n first solved ⌝ }
+    ensures { λ r. ⌜ r ≡ less complex x (λ p. complex .mul (plain complex conjugated (now (a .entry)) va q p) (elem complex (now (b .entry)) vb p 0)) from n ⌝ }
+{
+    let along = col_step(va);
+    let down = row_step(vb);
+    let mut rest = x;
+    let mut c = first;
+    let mut u = solved;
+    let mut i = 0;
+    while i < n {
+        rest = less_at(conjugated, a, va, b, vb, q, from + i, c, u, rest);
+        c = wrapping_add_usize(c, along);
+        u = wrapping_add_usize(u, down);
+        i += 1;
+    }
+    rest
+}
+
+// The unknown of a vector that comes after k others, at these places, solved.
+fn solve_next(sys: System, a: &[f64], b: &mut [f64], k: usize, at: Places)
+    requires { ⌜ ReadyAt sys (complex .count (now a)) (complex .count (now b)) k 0 × PlacesAt (sys .last) sys k at ⌝ }
     ensures { λ _. ⌜ now (b .exit) ≡ solve.solveOne complex sys (λ x. x) (now (a .entry)) k 0 (now (b .entry)) ⌝ }
 {
     let diag = sys.diag;
     let m = rows(sys.b);
     let q = in_order(sys.last, m, k);
     let from = least_solved(sys.last, m, k);
-    let x = elem_complex(b, sys.b, q, 0);
-    let rest = reduce(sys.conjugated, a, sys.a, b, sys.b, q, 0, from, k, x);
-    let y = by_pivot(diag, sys.conjugated, a, sys.a, q, rest);
-    put_complex(b, place(sys.b, q, 0), y);
+    let own = at.own;
+    let x = get_complex(b, own);
+    let rest = reduce_along(
+        sys.conjugated,
+        a,
+        sys.a,
+        b,
+        sys.b,
+        q,
+        from,
+        k,
+        x,
+        at.first,
+        at.solved,
+    );
+    let y = by_pivot(diag, sys.conjugated, a, sys.a, q, at.pivot, rest);
+    put_complex(b, own, y);
 }
 
-// Whether the pivot of the unknown that comes after k others is zero.
-fn meets_zero(sys: System, a: &[f64], k: usize) -> bool
-    requires { ⌜ Pivots sys (complex .count (now a)) × (k < sys .b .rows) ⌝ }
+// Whether the pivot of the unknown that comes after k others, which is at place `pivot`, is zero.
+fn meets_zero(sys: System, a: &[f64], k: usize, pivot: usize) -> bool
+    requires { ⌜ Pivots sys (complex .count (now a)) × (k < sys .b .rows) × (pivot ≡ index (sys .a) (inOrder (sys .last) (sys .b .rows) k) (inOrder (sys .last) (sys .b .rows) k)) ⌝ }
     ensures { λ r. ⌜ r ≡ solve.zeroAfter complex sys (now (a .entry)) k ⌝ }
 {
     let diag = sys.diag;
     let q = in_order(sys.last, rows(sys.b), k);
-    zero_pivot(diag, a, sys.a, q)
+    zero_pivot(diag, a, sys.a, q, pivot)
 }
 
 // The unknowns of a vector, up to the first zero pivot.
@@ -187,12 +276,18 @@ fn solve_vector(sys: System, a: &[f64], b: &mut [f64]) -> Answer
     ensures { λ r. ⌜ solve.Solved complex sys (λ x. x) (now (a .entry)) (now (b .entry)) r (now (b .exit)) ⌝ }
 {
     let n = rows(sys.b);
+    if n == 0 {
+        return Answer::Done;
+    }
+    let by = steps_of(sys);
+    let mut at = places_of(sys);
     let mut k = 0;
     while k < n {
-        if meets_zero(sys, a, k) {
+        if meets_zero(sys, a, k, at.pivot) {
             return Answer::Singular;
         }
-        solve_next(sys, a, b, k);
+        solve_next(sys, a, b, k, at);
+        at = onward(at, by);
         k += 1;
     }
     Answer::Done
@@ -206,7 +301,8 @@ fn first_zero(sys: System, a: &[f64]) -> usize
     let m = rows(sys.b);
     let mut k = 0;
     while k < m {
-        if meets_zero(sys, a, k) {
+        let q = in_order(sys.last, m, k);
+        if meets_zero(sys, a, k, place(sys.a, q, q)) {
             return k;
         }
         k += 1;
@@ -373,40 +469,29 @@ fn multiply_one(sys: System, alpha: Complex, a: &[f64], b: &mut [f64], k: usize,
     put_complex(b, place(sys.b, q, l), x);
 }
 
-// Element (i, j) of B multiplied.
-fn multiply_at(sys: System, alpha: Complex, a: &[f64], b: &mut [f64], i: usize, j: usize)
-    requires { ⌜ Ready sys (complex .count (now a)) (complex .count (now b)) × ((i < sys .rows) × (j < sys .cols)) ⌝ }
-    ensures { λ _. ⌜ now (b .exit) ≡ multiply.multiplyOne complex sys (now (a .entry)) (complex .mul alpha) (multiply.turn (sys .side) i j) (multiply.line (sys .side) i j) (now (b .entry)) ⌝ }
+// Line l of B, in the order that reads no written element.
+fn multiply_line(sys: System, alpha: Complex, a: &[f64], b: &mut [f64], l: usize)
+    requires { ⌜ Ready sys (complex .count (now a)) (complex .count (now b)) × (l < sys .b .cols) ⌝ }
+    ensures { λ _. ⌜ now (b .exit) ≡ multiply.multiplyLine complex sys (now (a .entry)) (complex .mul alpha) l (sys .b .rows) (now (b .entry)) ⌝ }
 {
-    let side = sys.side;
-    let k = turn(side, i, j);
-    let l = line(side, i, j);
-    multiply_one(sys, alpha, a, b, k, l);
-}
-
-// Column j of B.
-fn multiply_column(sys: System, alpha: Complex, a: &[f64], b: &mut [f64], j: usize)
-    requires { ⌜ Ready sys (complex .count (now a)) (complex .count (now b)) × (j < sys .cols) ⌝ }
-    ensures { λ _. ⌜ now (b .exit) ≡ multiply.multiplyColumn complex sys (now (a .entry)) (complex .mul alpha) j (sys .rows) (now (b .entry)) ⌝ }
-{
-    let m = sys.rows;
-    let mut i = 0;
-    while i < m {
-        multiply_at(sys, alpha, a, b, i, j);
-        i += 1;
+    let m = rows(sys.b);
+    let mut k = 0;
+    while k < m {
+        multiply_one(sys, alpha, a, b, k, l);
+        k += 1;
     }
 }
 
-// All of B, in the order that reads no written element.
+// All of B, line after line.
 fn multiply(sys: System, alpha: Complex, a: &[f64], b: &mut [f64])
     requires { ⌜ Ready sys (complex .count (now a)) (complex .count (now b)) ⌝ }
     ensures { λ _. ⌜ now (b .exit) ≡ multiply.multiplyAll complex sys (now (a .entry)) (complex .mul alpha) (now (b .entry)) ⌝ }
 {
-    let n = sys.cols;
-    let mut j = 0;
-    while j < n {
-        multiply_column(sys, alpha, a, b, j);
-        j += 1;
+    let n = cols(sys.b);
+    let mut l = 0;
+    while l < n {
+        multiply_line(sys, alpha, a, b, l);
+        l += 1;
     }
 }
 
@@ -464,8 +549,7 @@ pub fn trmv(
 ) -> Answer
     ensures { λ r. ⌜ Gives complex (Trmv.trmv complex uplo trans diag (lent complex (now (a .entry)) va) (lent complex (now (x .entry)) vx)) r (now (x .exit)) ⌝ }
 {
-    let stood = upright(vx);
-    let quick = quick_trmv(va, a.len() / 2, stood, x.len() / 2);
+    let quick = quick_trmv(va, a.len() / 2, vx, x.len() / 2);
     let answer = check_trmv(quick, va, a.len() / 2, vx, x.len() / 2);
     if passed(answer) {
         let v = column(vx, va.rows);
@@ -510,8 +594,7 @@ pub fn trsv(
 ) -> Answer
     ensures { λ r. ⌜ Gives complex (Trsv.trsv complex uplo trans diag (lent complex (now (a .entry)) va) (lent complex (now (x .entry)) vx)) r (now (x .exit)) ⌝ }
 {
-    let stood = upright(vx);
-    let quick = quick_trmv(va, a.len() / 2, stood, x.len() / 2);
+    let quick = quick_trmv(va, a.len() / 2, vx, x.len() / 2);
     let answer = check_trsv(quick, va, a.len() / 2, vx, x.len() / 2);
     if passed(answer) {
         let v = column(vx, va.rows);

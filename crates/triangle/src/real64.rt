@@ -3,12 +3,14 @@
 ghost use mathlib.Core.Path.{_≡_};
 ghost use Prim.Native.Nat.{_≤_, _<_};
 ghost use Rattle.number.specs.Kind.{real64};
+ghost use Rattle.view.specs.Place.{index};
 ghost use Rattle.view.specs.Steps.{Accepted};
+ghost use Rattle.slab.specs.Distinct.{Distinct};
 ghost use Rattle.slab.specs.Elem.{elem, lent, Shows};
 ghost use Rattle.slab.specs.Run.{plain, more, Spans};
 ghost use Rattle.slab.specs.Update.{step, row, everywhere};
 ghost use Rattle.blas.specs.Outcome.{Gives};
-ghost use Rattle.blas.specs.Substitution.{less};
+ghost use Rattle.blas.specs.Substitution.{less, inOrder};
 ghost use Rattle.blas.specs.Trsm.{timesAlpha, sidedSolve};
 ghost use Rattle.blas.specs.Trsm;
 ghost use Rattle.blas.specs.Trsv;
@@ -19,6 +21,7 @@ ghost use Rattle.order.specs.Triangles as triangles;
 ghost use Rattle.order.specs.Triangles.{timesIf};
 ghost use Rattle.order.specs.Solve as solve;
 ghost use Rattle.order.specs.Multiply as multiply;
+ghost use Rattle.order.specs.Places.{PlacesAt, Begins, Ends};
 ghost use Rattle.order.specs.Ready.{Pivots, Ready, ReadyAt, Sided};
 use judge::check_trmm;
 use judge::check_trmv;
@@ -27,30 +30,43 @@ use judge::check_trsv;
 use judge::quick_trmm;
 use judge::quick_trmv;
 use number::Real64;
+use order::Places;
 use order::System;
 use order::in_order;
 use order::is_left;
 use order::least_solved;
-use order::line;
 use order::lines_solved;
+use order::onward;
+use order::places_of;
 use order::solved;
+use order::steps_of;
 use order::stops;
 use order::system_of;
-use order::turn;
 use slab::elem64;
+use slab::get64;
 use slab::put64;
+use std::num::wrapping_add_usize;
 use view::Answer;
 use view::Diag;
 use view::Side;
 use view::Trans;
 use view::UpLo;
 use view::View;
+use view::col_step;
 use view::cols;
 use view::column;
 use view::passed;
 use view::place;
+use view::row_step;
 use view::rows;
-use view::upright;
+
+// Element (i, j) of a view, at place k: a real number is its own conjugate.
+fn read(conjugated: bool, s: &[f64], v: View, i: usize, j: usize, k: usize) -> Real64
+    requires { ⌜ Shows v (real64 .count (now s)) i j × (k ≡ index v i j) ⌝ }
+    ensures { λ r. ⌜ r .0 ≡ plain real64 conjugated (now (s .entry)) v i j ⌝ }
+{
+    get64(s, k)
+}
 
 // Element (i, j) of a view: a real number is its own conjugate.
 fn at(conjugated: bool, s: &[f64], v: View, i: usize, j: usize) -> Real64
@@ -144,23 +160,32 @@ fn add_run(
     sum
 }
 
-// x divided by pivot q.
-fn by_pivot(diag: Diag, conjugated: bool, a: &[f64], va: View, q: usize, x: f64) -> f64
-    requires { ⌜ Shows va (real64 .count (now a)) q q ⌝ }
+// x divided by pivot q, which is at place `pivot`.
+fn by_pivot(
+    diag: Diag,
+    conjugated: bool,
+    a: &[f64],
+    va: View,
+    q: usize,
+    pivot: usize,
+    x: f64,
+) -> f64
+    requires { ⌜ Shows va (real64 .count (now a)) q q × (pivot ≡ index va q q) ⌝ }
     ensures { λ r. ⌜ r ≡ solve.byDiag real64 diag (plain real64 conjugated (now (a .entry)) va q q) x ⌝ }
 {
     match diag {
-        Diag::NonUnit => Real64(x).div(at(conjugated, a, va, q, q)).0,
+        Diag::NonUnit => Real64(x).div(read(conjugated, a, va, q, q, pivot)).0,
         Diag::Unit => x,
     }
 }
 
-fn zero_pivot(diag: Diag, a: &[f64], va: View, q: usize) -> bool
-    requires { ⌜ Shows va (real64 .count (now a)) q q ⌝ }
+// Whether pivot q, which is at place `pivot`, is zero.
+fn zero_pivot(diag: Diag, a: &[f64], va: View, q: usize, pivot: usize) -> bool
+    requires { ⌜ Shows va (real64 .count (now a)) q q × (pivot ≡ index va q q) ⌝ }
     ensures { λ r. ⌜ r ≡ solve.zeroDiag real64 diag (elem real64 (now (a .entry)) va q q) ⌝ }
 {
     match diag {
-        Diag::NonUnit => elem64(a, va, q, q).is_zero(),
+        Diag::NonUnit => get64(a, pivot).is_zero(),
         Diag::Unit => false,
     }
 }
@@ -183,47 +208,122 @@ fn solve_one(sys: System, times: bool, alpha: Real64, a: &[f64], b: &mut [f64], 
     let from = least_solved(sys.last, m, k);
     let x = times_if(times, alpha, elem64(b, sys.b, q, l).0);
     let rest = reduce(sys.conjugated, a, sys.a, b, sys.b, q, l, from, k, x);
-    let y = by_pivot(diag, sys.conjugated, a, sys.a, q, rest);
+    let y = by_pivot(diag, sys.conjugated, a, sys.a, q, place(sys.a, q, q), rest);
     put64(b, place(sys.b, q, l), Real64(y));
 }
 
-// The unknown of a vector that comes after k others, solved.
-fn solve_next(sys: System, a: &[f64], b: &mut [f64], k: usize)
-    requires { ⌜ ReadyAt sys (real64 .count (now a)) (real64 .count (now b)) k 0 ⌝ }
+// x less the term of row q of a and a vector at p, whose factors are at places c and u.
+fn less_at(
+    conjugated: bool,
+    a: &[f64],
+    va: View,
+    b: &[f64],
+    vb: View,
+    q: usize,
+    p: usize,
+    c: usize,
+    u: usize,
+    x: f64,
+) -> f64
+    requires { ⌜ Shows va (real64 .count (now a)) q p × Shows vb (real64 .count (now b)) p 0 × (c ≡ index va q p) × (u ≡ index vb p 0) ⌝ }
+    ensures { λ r. ⌜ r ≡ real64 .sub x (real64 .mul (plain real64 conjugated (now (a .entry)) va q p) (elem real64 (now (b .entry)) vb p 0)) ⌝ }
+{
+    Real64(x)
+        .sub(read(conjugated, a, va, q, p, c).mul(get64(b, u)))
+        .0
+}
+
+// x less n such terms of a vector, from places `first` and `solved` on, with `stop` one step past the last unknown. The compiler does not know how
+// many there are and does not unroll the loop, which serves short sums.
+fn reduce_along(
+    conjugated: bool,
+    a: &[f64],
+    va: View,
+    b: &[f64],
+    vb: View,
+    q: usize,
+    from: usize,
+    n: usize,
+    x: f64,
+    first: usize,
+    solved: usize,
+    stop: usize,
+) -> f64
+    requires { ⌜ Spans va (real64 .count (now a)) vb (real64 .count (now b)) q 0 from n × Begins va vb q from n first solved × Ends vb from n solved stop ⌝ }
+    ensures { λ r. ⌜ r ≡ less real64 x (λ p. real64 .mul (plain real64 conjugated (now (a .entry)) va q p) (elem real64 (now (b .entry)) vb p 0)) from n ⌝ }
+{
+    let along = col_step(va);
+    let down = row_step(vb);
+    let mut rest = x;
+    let mut c = first;
+    let mut u = solved;
+    let mut i = 0;
+    while u != stop {
+        rest = less_at(conjugated, a, va, b, vb, q, from + i, c, u, rest);
+        c = wrapping_add_usize(c, along);
+        u = wrapping_add_usize(u, down);
+        i += 1;
+    }
+    rest
+}
+
+// The unknown of a vector that comes after k others, at these places, solved.
+fn solve_next(sys: System, a: &[f64], b: &mut [f64], k: usize, at: Places)
+    requires { ⌜ ReadyAt sys (real64 .count (now a)) (real64 .count (now b)) k 0 × PlacesAt (sys .last) sys k at × Distinct (sys .b) ⌝ }
     ensures { λ _. ⌜ now (b .exit) ≡ solve.solveOne real64 sys (λ x. x) (now (a .entry)) k 0 (now (b .entry)) ⌝ }
 {
     let diag = sys.diag;
     let m = rows(sys.b);
     let q = in_order(sys.last, m, k);
     let from = least_solved(sys.last, m, k);
-    let x = elem64(b, sys.b, q, 0).0;
-    let rest = reduce(sys.conjugated, a, sys.a, b, sys.b, q, 0, from, k, x);
-    let y = by_pivot(diag, sys.conjugated, a, sys.a, q, rest);
-    put64(b, place(sys.b, q, 0), Real64(y));
+    let own = at.own;
+    let x = get64(b, own).0;
+    let rest = reduce_along(
+        sys.conjugated,
+        a,
+        sys.a,
+        b,
+        sys.b,
+        q,
+        from,
+        k,
+        x,
+        at.first,
+        at.solved,
+        at.stop,
+    );
+    let y = by_pivot(diag, sys.conjugated, a, sys.a, q, at.pivot, rest);
+    put64(b, own, Real64(y));
 }
 
-// Whether the pivot of the unknown that comes after k others is zero.
-fn meets_zero(sys: System, a: &[f64], k: usize) -> bool
-    requires { ⌜ Pivots sys (real64 .count (now a)) × (k < sys .b .rows) ⌝ }
+// Whether the pivot of the unknown that comes after k others, which is at place `pivot`, is zero.
+fn meets_zero(sys: System, a: &[f64], k: usize, pivot: usize) -> bool
+    requires { ⌜ Pivots sys (real64 .count (now a)) × (k < sys .b .rows) × (pivot ≡ index (sys .a) (inOrder (sys .last) (sys .b .rows) k) (inOrder (sys .last) (sys .b .rows) k)) ⌝ }
     ensures { λ r. ⌜ r ≡ solve.zeroAfter real64 sys (now (a .entry)) k ⌝ }
 {
     let diag = sys.diag;
     let q = in_order(sys.last, rows(sys.b), k);
-    zero_pivot(diag, a, sys.a, q)
+    zero_pivot(diag, a, sys.a, q, pivot)
 }
 
 // The unknowns of a vector, up to the first zero pivot.
 fn solve_vector(sys: System, a: &[f64], b: &mut [f64]) -> Answer
-    requires { ⌜ Ready sys (real64 .count (now a)) (real64 .count (now b)) × (sys .b .cols ≡ 1) ⌝ }
+    requires { ⌜ Ready sys (real64 .count (now a)) (real64 .count (now b)) × (sys .b .cols ≡ 1) × Distinct (sys .b) ⌝ }
     ensures { λ r. ⌜ solve.Solved real64 sys (λ x. x) (now (a .entry)) (now (b .entry)) r (now (b .exit)) ⌝ }
 {
     let n = rows(sys.b);
+    if n == 0 {
+        return Answer::Done;
+    }
+    let by = steps_of(sys);
+    let mut at = places_of(sys);
     let mut k = 0;
     while k < n {
-        if meets_zero(sys, a, k) {
+        if meets_zero(sys, a, k, at.pivot) {
             return Answer::Singular;
         }
-        solve_next(sys, a, b, k);
+        solve_next(sys, a, b, k, at);
+        at = onward(at, by);
         k += 1;
     }
     Answer::Done
@@ -237,7 +337,8 @@ fn first_zero(sys: System, a: &[f64]) -> usize
     let m = rows(sys.b);
     let mut k = 0;
     while k < m {
-        if meets_zero(sys, a, k) {
+        let q = in_order(sys.last, m, k);
+        if meets_zero(sys, a, k, place(sys.a, q, q)) {
             return k;
         }
         k += 1;
@@ -404,40 +505,29 @@ fn multiply_one(sys: System, alpha: Real64, a: &[f64], b: &mut [f64], k: usize, 
     put64(b, place(sys.b, q, l), x);
 }
 
-// Element (i, j) of B multiplied.
-fn multiply_at(sys: System, alpha: Real64, a: &[f64], b: &mut [f64], i: usize, j: usize)
-    requires { ⌜ Ready sys (real64 .count (now a)) (real64 .count (now b)) × ((i < sys .rows) × (j < sys .cols)) ⌝ }
-    ensures { λ _. ⌜ now (b .exit) ≡ multiply.multiplyOne real64 sys (now (a .entry)) (real64 .mul (alpha .0)) (multiply.turn (sys .side) i j) (multiply.line (sys .side) i j) (now (b .entry)) ⌝ }
+// Line l of B, in the order that reads no written element.
+fn multiply_line(sys: System, alpha: Real64, a: &[f64], b: &mut [f64], l: usize)
+    requires { ⌜ Ready sys (real64 .count (now a)) (real64 .count (now b)) × (l < sys .b .cols) ⌝ }
+    ensures { λ _. ⌜ now (b .exit) ≡ multiply.multiplyLine real64 sys (now (a .entry)) (real64 .mul (alpha .0)) l (sys .b .rows) (now (b .entry)) ⌝ }
 {
-    let side = sys.side;
-    let k = turn(side, i, j);
-    let l = line(side, i, j);
-    multiply_one(sys, alpha, a, b, k, l);
-}
-
-// Column j of B.
-fn multiply_column(sys: System, alpha: Real64, a: &[f64], b: &mut [f64], j: usize)
-    requires { ⌜ Ready sys (real64 .count (now a)) (real64 .count (now b)) × (j < sys .cols) ⌝ }
-    ensures { λ _. ⌜ now (b .exit) ≡ multiply.multiplyColumn real64 sys (now (a .entry)) (real64 .mul (alpha .0)) j (sys .rows) (now (b .entry)) ⌝ }
-{
-    let m = sys.rows;
-    let mut i = 0;
-    while i < m {
-        multiply_at(sys, alpha, a, b, i, j);
-        i += 1;
+    let m = rows(sys.b);
+    let mut k = 0;
+    while k < m {
+        multiply_one(sys, alpha, a, b, k, l);
+        k += 1;
     }
 }
 
-// All of B, in the order that reads no written element.
+// All of B, line after line.
 fn multiply(sys: System, alpha: Real64, a: &[f64], b: &mut [f64])
     requires { ⌜ Ready sys (real64 .count (now a)) (real64 .count (now b)) ⌝ }
     ensures { λ _. ⌜ now (b .exit) ≡ multiply.multiplyAll real64 sys (now (a .entry)) (real64 .mul (alpha .0)) (now (b .entry)) ⌝ }
 {
-    let n = sys.cols;
-    let mut j = 0;
-    while j < n {
-        multiply_column(sys, alpha, a, b, j);
-        j += 1;
+    let n = cols(sys.b);
+    let mut l = 0;
+    while l < n {
+        multiply_line(sys, alpha, a, b, l);
+        l += 1;
     }
 }
 
@@ -495,8 +585,7 @@ pub fn trmv(
 ) -> Answer
     ensures { λ r. ⌜ Gives real64 (Trmv.trmv real64 uplo trans diag (lent real64 (now (a .entry)) va) (lent real64 (now (x .entry)) vx)) r (now (x .exit)) ⌝ }
 {
-    let stood = upright(vx);
-    let quick = quick_trmv(va, a.len(), stood, x.len());
+    let quick = quick_trmv(va, a.len(), vx, x.len());
     let answer = check_trmv(quick, va, a.len(), vx, x.len());
     if passed(answer) {
         let v = column(vx, va.rows);
@@ -541,8 +630,7 @@ pub fn trsv(
 ) -> Answer
     ensures { λ r. ⌜ Gives real64 (Trsv.trsv real64 uplo trans diag (lent real64 (now (a .entry)) va) (lent real64 (now (x .entry)) vx)) r (now (x .exit)) ⌝ }
 {
-    let stood = upright(vx);
-    let quick = quick_trmv(va, a.len(), stood, x.len());
+    let quick = quick_trmv(va, a.len(), vx, x.len());
     let answer = check_trsv(quick, va, a.len(), vx, x.len());
     if passed(answer) {
         let v = column(vx, va.rows);

@@ -220,7 +220,7 @@ pub fn vec_coord(v: View, k: usize) -> Coord
 }
 
 // The same elements, with the columns no more than the rows.
-pub fn upright(v: View) -> View
+fn upright(v: View) -> View
     ensures { λ r. ⌜ r ≡ uprightOf v ⌝ }
 {
     if v.cols <= v.rows { v } else { transposed(v) }

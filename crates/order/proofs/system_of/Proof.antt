@@ -7,10 +7,8 @@ use Rattle.order.proofs.system_of.Reads as reads
 use Rattle.order.proofs.system_of.Lts as lts
 use Rattle.order.proofs.last_first.Reads as last-first-reads
 use Rattle.order.proofs.lines_view.Reads as lines-view-reads
-use Rattle.view.proofs.cols.Reads as cols-reads
 use Rattle.view.proofs.conjugates.Reads as conjugates-reads
 use Rattle.view.proofs.op_view.Reads as op-view-reads
-use Rattle.view.proofs.rows.Reads as rows-reads
 
 -- src/lib.rt:104:9
 conjugates-requires : tie.Need-conjugates-requires
@@ -32,27 +30,17 @@ lines-view-requires c κs = search needs
 lines-view-requires-2 : tie.Need-lines-view-requires-2
 lines-view-requires-2 c κs = search needs
 
--- src/lib.rt:115:15
-rows-requires : tie.Need-rows-requires
-rows-requires c κs = search needs
-
--- src/lib.rt:116:15
-cols-requires : tie.Need-cols-requires
-cols-requires c κs = search needs
-
 -- src/lib.rt:101:1
 returns : tie.Need-returns
 returns c =
-    let p = c .before .before .before .before .before .before .before .args in
+    let p = c .before .before .before .before .before .args in
     λ i. record {
       side = p .side;
       diag = p .diag;
-      conjugated = c .before .before .before .before .before .before .conjugates .ensures i;
-      last = c .before .before .before .before .before .last-first .ensures i;
-      a = (c .before .before .before .lines-view .ensures ∙ ap (linesView (p .side)) (c .before .before .before .before .op-view .ensures)) i;
-      b = c .before .before .lines-view2 .ensures i;
-      rows = c .before .rows .ensures i;
-      cols = c .cols .ensures i;
+      conjugated = c .before .before .before .before .conjugates .ensures i;
+      last = c .before .before .before .last-first .ensures i;
+      a = (c .before .lines-view .ensures ∙ ap (linesView (p .side)) (c .before .before .op-view .ensures)) i;
+      b = c .lines-view2 .ensures i;
     }
 
 pub system-of-spec : {M : Type 1} → statement M
@@ -64,6 +52,4 @@ system-of-spec =
     op-view-requires
     lines-view-requires
     lines-view-requires-2
-    rows-requires
-    cols-requires
     returns)

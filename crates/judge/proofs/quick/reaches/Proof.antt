@@ -4,7 +4,6 @@ use mathlib.Core.Path.{ap, subst, _∙_}
 use Prim.Native.Nat.{_+_, _-_, _*_}
 use native.Mathlib.Omega.{arith}
 use lib.IntN.{ℤ}
-use mir.Syntax.{w64}
 use mir.Facts.{toZ-ofZ}
 use borrow.Author.Tests.{ltb-true}
 use Rattle.view.specs.Steps.{up}
@@ -21,27 +20,26 @@ short-requires c κs = search needs
 
 reach-requires : tie.Need-reach-requires
 reach-requires c κs =
-    let x = c .before .before .short .ensures (c .before .if2 .taken) in
-    let s = c .before .before .before .before .before .before in
+    let x = c .before .short .ensures (c .if2 .taken) in
+    let s = c .before .before .before .before in
     record { some = s .pre .0; few = s .pre .1; forward = x .0; short = x .1 }
 
 add-result : tie.Need-add-result
 add-result c =
-    let s = c .before .before .before .before .before .before .before .before in
-    let e = toZ-ofZ {w = w64} {z = s .args .v .rs} (record { sfits = c .before .before .before .before .before .struct-told .given .1 .1 .1 .0 .1 }) in
-    let r = subst (Run (s .args .n)) e (reach-requires (c .before .before) tt) in
-    let d = c .before .reach .ensures ∙ ap (λ (z : ℤ). (s .args .n - 1) * up z) e in
-    record { fits = omega (arith, d, run-le (s .args .n) (s .args .v .rs) r, c .before .before .before .before .before .before .before .near .ensures (c .before .before .before .before .before .before .if1 .taken)) }
+    let s = c .before .before .before .before .before in
+    let e = toZ-ofZ (s .fits .z) in
+    let r = subst (Run (s .args .n)) e (reach-requires (c .before) tt) in
+    let d = c .reach .ensures ∙ ap (λ (z : ℤ). (s .args .n - 1) * up z) e in
+    record { fits = omega (arith, d, run-le (s .args .n) (s .args .z) r, c .before .before .before .before .near .ensures (c .before .before .before .if1 .taken)) }
 
 returns : tie.Need-returns
 returns c h =
-    let s = c .before .before .before .before .before .before .before .before in
-    let e = toZ-ofZ {w = w64} {z = s .args .v .rs} (record { sfits = c .before .before .before .before .before .struct-told .given .1 .1 .1 .0 .1 }) in
-    let r = subst (Run (s .args .n)) e (reach-requires (c .before .before) tt) in
-    let d = c .before .reach .ensures ∙ ap (λ (z : ℤ). (s .args .n - 1) * up z) e in
+    let s = c .before .before .before .before .before in
+    let e = toZ-ofZ (s .fits .z) in
+    let d = c .reach .ensures ∙ ap (λ (z : ℤ). (s .args .n - 1) * up z) e in
     record {
-      run = r;
-      below = omega (arith, d, ltb-true (s .args .v .start + c .before .reach .result) (s .args .len) h);
+      run = subst (Run (s .args .n)) e (reach-requires (c .before) tt);
+      below = omega (arith, d, ltb-true (s .args .start + c .reach .result) (s .args .len) h);
     }
 
 returns-2 : tie.Need-returns-2

@@ -4,35 +4,26 @@ use Rattle.number.specs.Kind.{real32}
 use Rattle.number.specs.Scaling.{scaleBy32}
 use Rattle.number.proofs.ScalingLaws.{scale32}
 use Rattle.product_plan.proofs.Kernels.{hemv-refused, hemv-vectors, hemv-runs, hemv-done}
-use Rattle.judge.proofs.Ops.{hemv-upright}
 use Rattle.product.proofs.real32.hemv.Statement.{statement}
 use Rattle.product.proofs.real32.hemv.Tie as tie
-
-upright-requires : tie.Need-upright-requires
-upright-requires c κs = search needs
-
-upright-requires-2 : tie.Need-upright-requires-2
-upright-requires-2 c κs = search needs
 
 quick-hemv-requires : tie.Need-quick-hemv-requires
 quick-hemv-requires c κs = search needs
 
 check-hemv-requires : tie.Need-check-hemv-requires
-check-hemv-requires c κs h =
-    let g = c .before .before .before .before .before .before .args in
-    hemv-upright (g .va) _ (g .vx) _ (g .vy) _ _ _ (c .before .before .upright .ensures) (c .before .upright2 .ensures) (c .quick-hemv .ensures h)
+check-hemv-requires c κs = c .quick-hemv .ensures
 
 passed-requires : tie.Need-passed-requires
 passed-requires c κs = tt
 
 hemv-plan-requires : tie.Need-hemv-plan-requires
-hemv-plan-requires c κs = hemv-vectors (c .before .before .before .before .before .before .before .before .before .args .uplo) _ _ _ _ _ _ _ _ (c .before .before .check-hemv .ensures) (c .before .passed .ensures) (c .if1 .taken)
+hemv-plan-requires c κs = hemv-vectors (c .before .before .before .before .before .before .before .args .uplo) _ _ _ _ _ _ _ _ (c .before .before .check-hemv .ensures) (c .before .passed .ensures) (c .if1 .taken)
 
 judge-requires : tie.Need-judge-requires
 judge-requires c κs = tt
 
 run-left-column-requires : tie.Need-run-left-column-requires
-run-left-column-requires c κs = hemv-runs (c .before .before .before .before .before .before .before .before .before .before .before .before .args .uplo) _ _ _ _ _ _ _ _ (c .before .before .before .before .before .check-hemv .ensures) (c .before .before .before .before .passed .ensures) (c .before .before .before .if1 .taken) _ (c .before .before .hemv-plan .ensures)
+run-left-column-requires c κs = hemv-runs (c .before .before .before .before .before .before .before .before .before .before .args .uplo) _ _ _ _ _ _ _ _ (c .before .before .before .before .before .check-hemv .ensures) (c .before .before .before .before .passed .ensures) (c .before .before .before .if1 .taken) _ (c .before .before .hemv-plan .ensures)
 
 same-length : tie.Need-same-length
 same-length c = search needs
@@ -47,8 +38,6 @@ pub hemv-spec : {M : Type 1} → statement M
 hemv-spec =
     tie.close
     (tie.spec
-    upright-requires
-    upright-requires-2
     quick-hemv-requires
     check-hemv-requires
     passed-requires

@@ -1,23 +1,14 @@
 use borrow.Author.Needs.{needs}
 use Rattle.number.specs.Kind.{complex}
 use Rattle.rank_plan.proofs.Kernels.{her2-vectors, her2-runs, her2-done, her2-refused}
-use Rattle.judge.proofs.Ops.{her2-upright}
 use Rattle.rank.proofs.complex.her2.Statement.{statement}
 use Rattle.rank.proofs.complex.her2.Tie as tie
-
-upright-requires : tie.Need-upright-requires
-upright-requires c κs = search needs
-
-upright-requires-2 : tie.Need-upright-requires-2
-upright-requires-2 c κs = search needs
 
 quick-her2-requires : tie.Need-quick-her2-requires
 quick-her2-requires c κs = search needs
 
 check-her2-requires : tie.Need-check-her2-requires
-check-her2-requires c κs h =
-    let g = c .before .before .before .before .before .before .args in
-    her2-upright (g .vx) _ (g .vy) _ (g .va) _ _ _ (c .before .before .upright .ensures) (c .before .upright2 .ensures) (c .quick-her2 .ensures h)
+check-her2-requires c κs = c .quick-her2 .ensures
 
 passed-requires : tie.Need-passed-requires
 passed-requires c κs = tt
@@ -44,8 +35,6 @@ pub her2-spec : {M : Type 1} → statement M
 her2-spec =
     tie.close
     (tie.spec
-    upright-requires
-    upright-requires-2
     quick-her2-requires
     check-her2-requires
     passed-requires

@@ -1,20 +1,14 @@
 use borrow.Author.Needs.{needs}
 use Rattle.number.specs.Kind.{real64}
 use Rattle.rank_plan.proofs.Kernels.{her-vector, her-runs, her-done, her-refused}
-use Rattle.judge.proofs.Ops.{her-upright}
 use Rattle.rank.proofs.real64.her.Statement.{statement}
 use Rattle.rank.proofs.real64.her.Tie as tie
-
-upright-requires : tie.Need-upright-requires
-upright-requires c κs = search needs
 
 quick-her-requires : tie.Need-quick-her-requires
 quick-her-requires c κs = search needs
 
 check-her-requires : tie.Need-check-her-requires
-check-her-requires c κs h =
-    let g = c .before .before .before .before .args in
-    her-upright (g .vx) _ (g .va) _ _ (c .before .upright .ensures) (c .quick-her .ensures h)
+check-her-requires c κs = c .quick-her .ensures
 
 passed-requires : tie.Need-passed-requires
 passed-requires c κs = tt
@@ -38,7 +32,6 @@ pub her-spec : {M : Type 1} → statement M
 her-spec =
     tie.close
     (tie.spec
-    upright-requires
     quick-her-requires
     check-her-requires
     passed-requires

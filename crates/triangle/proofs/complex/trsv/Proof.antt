@@ -9,20 +9,14 @@ use Rattle.number.proofs.Commutes.{complex-commutes}
 use Rattle.order.proofs.Judged.{vector-passed, vector-runs}
 use Rattle.order.proofs.SolveKernels.{trsv-refused, trsv-done}
 use borrow.Author.Needs.{needs}
-use Rattle.judge.proofs.Ops.{trmv-upright}
 use Rattle.triangle.proofs.complex.trsv.Statement.{statement}
 use Rattle.triangle.proofs.complex.trsv.Tie as tie
-
-upright-requires : tie.Need-upright-requires
-upright-requires c κs = search needs
 
 quick-trmv-requires : tie.Need-quick-trmv-requires
 quick-trmv-requires c κs = search needs
 
 check-trsv-requires : tie.Need-check-trsv-requires
-check-trsv-requires c κs h =
-    let g = c .before .before .before .before .args in
-    trmv-upright (g .va) _ (g .vx) _ _ (c .before .upright .ensures) (c .quick-trmv .ensures h)
+check-trsv-requires c κs = c .quick-trmv .ensures
 
 passed-requires : tie.Need-passed-requires
 passed-requires c κs = search needs
@@ -35,7 +29,7 @@ system-of-requires c κs = search needs
 
 solve-vector-requires : tie.Need-solve-vector-requires
 solve-vector-requires c κs =
-    let p = c .before .before .before .before .before .before .before .before .before .before .args in
+    let p = c .before .before .before .before .before .before .before .before .before .args in
     (ready-made (p .uplo) (p .trans) (p .diag) _ _ _ _ Left _ _ (vector-runs _ _ _ _ _ _ (c .before .before .before .before .before .check-trsv .ensures) (c .before .before .before .before .passed .ensures) (c .before .before .before .if1 .taken) _ (c .before .before .column .ensures)) (c .before .system-of .ensures) refl, one-line (p .uplo) (p .trans) (p .diag) (p .va) _ _ _ (c .before .before .column .ensures) (c .before .system-of .ensures))
 
 same-length : tie.Need-same-length
@@ -43,7 +37,7 @@ same-length c = search needs
 
 returns : tie.Need-returns
 returns c =
-    let p = c .before .before .before .before .before .before .before .before .before .before .before .before .before .args in
+    let p = c .before .before .before .before .before .before .before .before .before .before .before .before .args in
     trsv-done complex _ _ _ _ _ _ _ (c .before .before .before .before .before .before .before .before .check-trsv .ensures) (c .before .before .before .before .before .before .before .passed .ensures) (c .before .before .before .before .before .before .if1 .taken) _ (c .before .before .before .before .before .column .ensures) _ _
     (solved-gives complex complex-commutes (p .uplo) (p .trans) (p .diag) _ _ _ _ _ _ _ (complex-laws .slab) complex-swaps Left _ (c .before .before .before .before .system-of .ensures) (vector-runs _ _ _ _ _ _ (c .before .before .before .before .before .before .before .before .check-trsv .ensures) (c .before .before .before .before .before .before .before .passed .ensures) (c .before .before .before .before .before .before .if1 .taken) _ (c .before .before .before .before .before .column .ensures) .distinct) (c .before .before .solve-vector .ensures))
 
@@ -54,7 +48,6 @@ pub trsv-spec : {M : Type 1} → statement M
 trsv-spec =
     tie.close
     (tie.spec
-    upright-requires
     quick-trmv-requires
     check-trsv-requires
     passed-requires

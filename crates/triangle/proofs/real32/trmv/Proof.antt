@@ -8,20 +8,14 @@ use Rattle.order.proofs.Judged.{vector-passed, vector-runs}
 use Rattle.order.proofs.ProductKernels.{trmv-refused, trmv-done}
 use Rattle.order.proofs.Systems.{ready-made, one-line}
 use borrow.Author.Needs.{needs}
-use Rattle.judge.proofs.Ops.{trmv-upright}
 use Rattle.triangle.proofs.real32.trmv.Statement.{statement}
 use Rattle.triangle.proofs.real32.trmv.Tie as tie
-
-upright-requires : tie.Need-upright-requires
-upright-requires c κs = search needs
 
 quick-trmv-requires : tie.Need-quick-trmv-requires
 quick-trmv-requires c κs = search needs
 
 check-trmv-requires : tie.Need-check-trmv-requires
-check-trmv-requires c κs h =
-    let g = c .before .before .before .before .args in
-    trmv-upright (g .va) _ (g .vx) _ _ (c .before .upright .ensures) (c .quick-trmv .ensures h)
+check-trmv-requires c κs = c .quick-trmv .ensures
 
 passed-requires : tie.Need-passed-requires
 passed-requires c κs = search needs
@@ -34,7 +28,7 @@ system-of-requires c κs = search needs
 
 multiply-vector-requires : tie.Need-multiply-vector-requires
 multiply-vector-requires c κs =
-    let p = c .before .before .before .before .before .before .before .before .before .before .args in
+    let p = c .before .before .before .before .before .before .before .before .before .args in
     (ready-made (p .uplo) (p .trans) _ _ _ _ _ _ _ _ (vector-runs _ _ _ _ _ _ (c .before .before .before .before .before .check-trmv .ensures) (c .before .before .before .before .passed .ensures) (c .before .before .before .if1 .taken) _ (c .before .before .column .ensures)) (c .before .system-of .ensures) refl, one-line (p .uplo) (p .trans) (p .diag) (p .va) _ _ _ (c .before .before .column .ensures) (c .before .system-of .ensures))
 
 same-length : tie.Need-same-length
@@ -50,7 +44,6 @@ pub trmv-spec : {M : Type 1} → statement M
 trmv-spec =
     tie.close
     (tie.spec
-    upright-requires
     quick-trmv-requires
     check-trmv-requires
     passed-requires

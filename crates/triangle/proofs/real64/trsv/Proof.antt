@@ -1,8 +1,10 @@
 use lib.Ieee.{binary64}
-use mathlib.Core.Path.{refl}
+use mathlib.Core.Path.{refl, sym, subst}
 use Rattle.number.specs.Kind.{real64}
 use Rattle.number.proofs.Instances.{real64-laws}
 use Rattle.view.specs.declared.Side.the-variants.{Left}
+use Rattle.slab.specs.Distinct.{Distinct}
+use Rattle.order.specs.declared.System.{System}
 use Rattle.order.proofs.Systems.{ready-made, one-line}
 use Rattle.order.proofs.Solves.{solved-gives}
 use Rattle.order.proofs.InOrder.{real-swaps}
@@ -10,20 +12,14 @@ use Rattle.number.proofs.Commutes.{real-commutes}
 use Rattle.order.proofs.Judged.{vector-passed, vector-runs}
 use Rattle.order.proofs.SolveKernels.{trsv-refused, trsv-done}
 use borrow.Author.Needs.{needs}
-use Rattle.judge.proofs.Ops.{trmv-upright}
 use Rattle.triangle.proofs.real64.trsv.Statement.{statement}
 use Rattle.triangle.proofs.real64.trsv.Tie as tie
-
-upright-requires : tie.Need-upright-requires
-upright-requires c κs = search needs
 
 quick-trmv-requires : tie.Need-quick-trmv-requires
 quick-trmv-requires c κs = search needs
 
 check-trsv-requires : tie.Need-check-trsv-requires
-check-trsv-requires c κs h =
-    let g = c .before .before .before .before .args in
-    trmv-upright (g .va) _ (g .vx) _ _ (c .before .upright .ensures) (c .quick-trmv .ensures h)
+check-trsv-requires c κs = c .quick-trmv .ensures
 
 passed-requires : tie.Need-passed-requires
 passed-requires c κs = search needs
@@ -36,15 +32,15 @@ system-of-requires c κs = search needs
 
 solve-vector-requires : tie.Need-solve-vector-requires
 solve-vector-requires c κs =
-    let p = c .before .before .before .before .before .before .before .before .before .before .args in
-    (ready-made (p .uplo) (p .trans) (p .diag) _ _ _ _ Left _ _ (vector-runs _ _ _ _ _ _ (c .before .before .before .before .before .check-trsv .ensures) (c .before .before .before .before .passed .ensures) (c .before .before .before .if1 .taken) _ (c .before .before .column .ensures)) (c .before .system-of .ensures) refl, one-line (p .uplo) (p .trans) (p .diag) (p .va) _ _ _ (c .before .before .column .ensures) (c .before .system-of .ensures))
+    let p = c .before .before .before .before .before .before .before .before .before .args in
+    (ready-made (p .uplo) (p .trans) (p .diag) _ _ _ _ Left _ _ (vector-runs _ _ _ _ _ _ (c .before .before .before .before .before .check-trsv .ensures) (c .before .before .before .before .passed .ensures) (c .before .before .before .if1 .taken) _ (c .before .before .column .ensures)) (c .before .system-of .ensures) refl, one-line (p .uplo) (p .trans) (p .diag) (p .va) _ _ _ (c .before .before .column .ensures) (c .before .system-of .ensures), subst (λ (y : System). Distinct (y .b)) (sym (c .before .system-of .ensures)) ((vector-runs _ _ _ _ _ _ (c .before .before .before .before .before .check-trsv .ensures) (c .before .before .before .before .passed .ensures) (c .before .before .before .if1 .taken) _ (c .before .before .column .ensures)) .distinct))
 
 same-length : tie.Need-same-length
 same-length c = search needs
 
 returns : tie.Need-returns
 returns c =
-    let p = c .before .before .before .before .before .before .before .before .before .before .before .before .before .args in
+    let p = c .before .before .before .before .before .before .before .before .before .before .before .before .args in
     trsv-done real64 _ _ _ _ _ _ _ (c .before .before .before .before .before .before .before .before .check-trsv .ensures) (c .before .before .before .before .before .before .before .passed .ensures) (c .before .before .before .before .before .before .if1 .taken) _ (c .before .before .before .before .before .column .ensures) _ _
     (solved-gives real64 (real-commutes binary64) (p .uplo) (p .trans) (p .diag) _ _ _ _ _ _ _ (real64-laws .slab) (real-swaps binary64) Left _ (c .before .before .before .before .system-of .ensures) (vector-runs _ _ _ _ _ _ (c .before .before .before .before .before .before .before .before .check-trsv .ensures) (c .before .before .before .before .before .before .before .passed .ensures) (c .before .before .before .before .before .before .if1 .taken) _ (c .before .before .before .before .before .column .ensures) .distinct) (c .before .before .solve-vector .ensures))
 
@@ -55,7 +51,6 @@ pub trsv-spec : {M : Type 1} → statement M
 trsv-spec =
     tie.close
     (tie.spec
-    upright-requires
     quick-trmv-requires
     check-trsv-requires
     passed-requires
