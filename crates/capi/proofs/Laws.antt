@@ -1,6 +1,5 @@
 -- A call with its flags in range has the routine's outcome; one with a flag out of range is refused.
-use Prim.Native.Nat.{ℕ, zero, suc, _≤_, _<_}
-use native.Mathlib.Omega.{arith}
+use Prim.Native.Nat.{ℕ, zero, suc}
 use mathlib.Core.Bool.{Bool, true, false}
 use mathlib.Core.List.{List}
 use mathlib.Core.Path.{_≡_, refl, sym, subst, _∙_, ap}
@@ -14,7 +13,7 @@ use Rattle.view.specs.declared.Answer.{Answer}
 use Rattle.view.specs.declared.Answer.the-variants.{Done, TooLarge, OutOfBounds, ShapeMismatch, Overlap, Singular}
 use Rattle.view.specs.declared.Diag.the-variants.{Unit}
 use Rattle.view.specs.declared.Side.the-variants.{Right}
-use Rattle.view.specs.declared.Trans.the-variants.{Trans as Transposed, ConjTrans}
+use Rattle.view.specs.declared.Trans.the-variants.{ConjTrans}
 use Rattle.view.specs.declared.UpLo.the-variants.{Lower}
 use Rattle.view.specs.Judge.{answerNumber}
 use Rattle.blas.specs.Outcome.{Outcome, outcome, Gives}
@@ -42,26 +41,11 @@ module _ (K : Kind) (valid flag : Bool) (o : Outcome K) (refusal : Answer) (lent
 
 -- ---- flags
 
-pub trans-one : (n : ℕ) → n < 2 → (n ≡ 0 → ⊥) → Transposed ≡ transOf n
+pub trans-else : (n : ℕ) → (n ≡ 0 → ⊥) → (n ≡ 1 → ⊥) → ConjTrans ≡ transOf n
 unfolding transOf
-trans-one zero p q = absurd (q refl)
-trans-one (suc zero) p q = refl
-trans-one (suc (suc n)) p q = absurd (at n p)
-  where
-    at : (n : ℕ) → suc (suc n) < 2 → ⊥
-    at n h = omega arith
-
-pub trans-else : (n : ℕ) → 2 ≤ n → ConjTrans ≡ transOf n
-unfolding transOf
-trans-else zero p = absurd (at p)
-  where
-    at : 2 ≤ 0 → ⊥
-    at h = omega arith
-trans-else (suc zero) p = absurd (at p)
-  where
-    at : 2 ≤ 1 → ⊥
-    at h = omega arith
-trans-else (suc (suc n)) p = refl
+trans-else zero p q = absurd (p refl)
+trans-else (suc zero) p q = absurd (q refl)
+trans-else (suc (suc n)) p q = refl
 
 pub uplo-else : (n : ℕ) → (n ≡ 0 → ⊥) → Lower ≡ upLoOf n
 unfolding upLoOf
