@@ -35,7 +35,7 @@ use Rattle.blas.proofs.SubstitutionLaws.{in-order-lt, in-order-twice, first-is,
 use Rattle.order.specs.declared.System.{System}
 use Rattle.order.specs.Walk.{walk}
 use Rattle.order.specs.Triangles.{linesView, systemOf, coefficient}
-use Rattle.order.specs.Solve.{byDiag, zeroDiag, solveOne, solveUnknowns, zeroAfter, firstZero, stops, answered, linesSolved, Solved}
+use Rattle.order.specs.Solve.{byDiag, zeroDiag, solveOne, solveUnknowns, zeroAfter, firstZero, anyZero, stops, answered, linesSolved, Solved}
 use Rattle.order.proofs.WalkLaws.{walk-cong, walk-nested, walk-rounds}
 use Rattle.order.proofs.InOrder.{Swaps}
 use Rattle.number.proofs.Commutes.{Commutes}
@@ -71,6 +71,14 @@ first-nowhere f n m k e h g cleared =
     let all : k ≡ n = omega arith in
     all ∙ sym (first-none n f (subst (λ (x : ℕ). (i : ℕ) → i < x → f i ≡ false) all (cleared .none)))
 
+-- a loop that asks whether the test passes somewhere, and stops at k, or does not stop
+pub any-found : (f : ℕ → Bool) (n m k : ℕ) (b : Bool) → m ≡ n → k < m → b ≡ f k → b ≡ true → true ≡ any n f
+any-found f n m k b e h told t = sym (found n f k (subst (λ (x : ℕ). k < x) e h) (sym told ∙ t))
+
+pub any-nowhere : (f : ℕ → Bool) (n m k : ℕ) → m ≡ n → m ≤ k → Clear f k → false ≡ any n f
+any-nowhere f n m k e g cleared =
+    sym (is-false (any n f) (λ t. let w = finds n f t in let h = w .1 in clash (w .2) (cleared .none (w .0) (omega (arith, h)))))
+
 -- ---- one unknown, by parts
 
 module _ (K : Kind) (y : System) (a : List (K .Cell)) where
@@ -94,6 +102,16 @@ module _ (K : Kind) (y : System) (a : List (K .Cell)) where
   unfolding zeroAfter
   meets-is k m q b counted here told =
       told ∙ ap (λ (u : ℕ). zeroDiag K (y .diag) (elem K a (y .a) u u)) (here ∙ ap (λ (c : ℕ). inOrder (y .last) c k) counted)
+
+  -- where no pivot is zero, all unknowns come before the first that is
+  pub none-zero : (m : ℕ) (b : Bool) → m ≡ y .b .rows → b ≡ anyZero K y a → b ≡ false → m ≡ firstZero K y a
+  unfolding zeroAfter
+  none-zero m b counted told h =
+      counted
+      ∙ sym
+      (first-none (y .b .rows) (zeroAfter K y a)
+      (λ i g. is-false (zeroAfter K y a i)
+      (λ t. clash (found (y .b .rows) (λ q. zeroDiag K (y .diag) (elem K a (y .a) q q)) (inOrder (y .last) (y .b .rows) i) (in-order-lt (y .last) (y .b .rows) i g) t) (sym told ∙ h))))
 
 -- ---- one unknown is the definition's
 

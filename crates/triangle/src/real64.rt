@@ -17,8 +17,6 @@ ghost use Rattle.blas.specs.Trsv;
 ghost use Rattle.blas.specs.Trmm;
 ghost use Rattle.blas.specs.Trmv;
 ghost use Rattle.order.specs.Walk.{walk};
-ghost use Rattle.order.specs.Triangles as triangles;
-ghost use Rattle.order.specs.Triangles.{timesIf};
 ghost use Rattle.order.specs.Solve as solve;
 ghost use Rattle.order.specs.Multiply as multiply;
 ghost use Rattle.order.specs.Places.{PlacesAt, Begins, Ends};
@@ -33,7 +31,6 @@ use number::Real64;
 use order::Places;
 use order::System;
 use order::in_order;
-use order::is_left;
 use order::least_solved;
 use order::lines_solved;
 use order::onward;
@@ -190,23 +187,31 @@ fn zero_pivot(diag: Diag, a: &[f64], va: View, q: usize, pivot: usize) -> bool
     }
 }
 
-// x times alpha, or as it is.
-fn times_if(times: bool, alpha: Real64, x: f64) -> f64
-    ensures { λ r. ⌜ r ≡ timesIf real64 times (alpha .0) x ⌝ }
-{
-    if times { alpha.mul(Real64(x)).0 } else { x }
-}
-
-// The unknown of line l that comes after k others, solved.
-fn solve_one(sys: System, times: bool, alpha: Real64, a: &[f64], b: &mut [f64], k: usize, l: usize)
+// The unknown of line l that comes after k others, solved, with A on the left: its right-hand side is multiplied by alpha.
+fn left_one(sys: System, alpha: Real64, a: &[f64], b: &mut [f64], k: usize, l: usize)
     requires { ⌜ ReadyAt sys (real64 .count (now a)) (real64 .count (now b)) k l ⌝ }
-    ensures { λ _. ⌜ now (b .exit) ≡ solve.solveOne real64 sys (timesIf real64 times (alpha .0)) (now (a .entry)) k l (now (b .entry)) ⌝ }
+    ensures { λ _. ⌜ now (b .exit) ≡ solve.solveOne real64 sys (real64 .mul (alpha .0)) (now (a .entry)) k l (now (b .entry)) ⌝ }
 {
     let diag = sys.diag;
     let m = rows(sys.b);
     let q = in_order(sys.last, m, k);
     let from = least_solved(sys.last, m, k);
-    let x = times_if(times, alpha, elem64(b, sys.b, q, l).0);
+    let x = alpha.mul(elem64(b, sys.b, q, l)).0;
+    let rest = reduce(sys.conjugated, a, sys.a, b, sys.b, q, l, from, k, x);
+    let y = by_pivot(diag, sys.conjugated, a, sys.a, q, place(sys.a, q, q), rest);
+    put64(b, place(sys.b, q, l), Real64(y));
+}
+
+// The same with A on the right, where B is multiplied already.
+fn right_one(sys: System, a: &[f64], b: &mut [f64], k: usize, l: usize)
+    requires { ⌜ ReadyAt sys (real64 .count (now a)) (real64 .count (now b)) k l ⌝ }
+    ensures { λ _. ⌜ now (b .exit) ≡ solve.solveOne real64 sys (λ x. x) (now (a .entry)) k l (now (b .entry)) ⌝ }
+{
+    let diag = sys.diag;
+    let m = rows(sys.b);
+    let q = in_order(sys.last, m, k);
+    let from = least_solved(sys.last, m, k);
+    let x = elem64(b, sys.b, q, l).0;
     let rest = reduce(sys.conjugated, a, sys.a, b, sys.b, q, l, from, k, x);
     let y = by_pivot(diag, sys.conjugated, a, sys.a, q, place(sys.a, q, q), rest);
     put64(b, place(sys.b, q, l), Real64(y));
@@ -306,8 +311,8 @@ fn meets_zero(sys: System, a: &[f64], k: usize, pivot: usize) -> bool
     zero_pivot(diag, a, sys.a, q, pivot)
 }
 
-// The unknowns of a vector, up to the first zero pivot.
-fn solve_vector(sys: System, a: &[f64], b: &mut [f64]) -> Answer
+// The unknowns of a vector, up to the first zero pivot, where the last is solved first.
+fn solve_backward(sys: System, a: &[f64], b: &mut [f64]) -> Answer
     requires { ⌜ Ready sys (real64 .count (now a)) (real64 .count (now b)) × (sys .b .cols ≡ 1) × Distinct (sys .b) ⌝ }
     ensures { λ r. ⌜ solve.Solved real64 sys (λ x. x) (now (a .entry)) (now (b .entry)) r (now (b .exit)) ⌝ }
 {
@@ -329,6 +334,41 @@ fn solve_vector(sys: System, a: &[f64], b: &mut [f64]) -> Answer
     Answer::Done
 }
 
+// The same where the first is solved first: in a loop of its own the compiler knows before it which places move.
+fn solve_forward(sys: System, a: &[f64], b: &mut [f64]) -> Answer
+    requires { ⌜ Ready sys (real64 .count (now a)) (real64 .count (now b)) × (sys .b .cols ≡ 1) × Distinct (sys .b) ⌝ }
+    ensures { λ r. ⌜ solve.Solved real64 sys (λ x. x) (now (a .entry)) (now (b .entry)) r (now (b .exit)) ⌝ }
+{
+    let m = rows(sys.b);
+    if m == 0 {
+        return Answer::Done;
+    }
+    let by = steps_of(sys);
+    let mut at = places_of(sys);
+    let mut k = 0;
+    while k < m {
+        if meets_zero(sys, a, k, at.pivot) {
+            return Answer::Singular;
+        }
+        solve_next(sys, a, b, k, at);
+        at = onward(at, by);
+        k += 1;
+    }
+    Answer::Done
+}
+
+// The unknowns of a vector, up to the first zero pivot.
+fn solve_vector(sys: System, a: &[f64], b: &mut [f64]) -> Answer
+    requires { ⌜ Ready sys (real64 .count (now a)) (real64 .count (now b)) × (sys .b .cols ≡ 1) × Distinct (sys .b) ⌝ }
+    ensures { λ r. ⌜ solve.Solved real64 sys (λ x. x) (now (a .entry)) (now (b .entry)) r (now (b .exit)) ⌝ }
+{
+    if sys.last {
+        solve_backward(sys, a, b)
+    } else {
+        solve_forward(sys, a, b)
+    }
+}
+
 // How many unknowns come before the first zero pivot.
 fn first_zero(sys: System, a: &[f64]) -> usize
     requires { ⌜ Pivots sys (real64 .count (now a)) ⌝ }
@@ -346,56 +386,106 @@ fn first_zero(sys: System, a: &[f64]) -> usize
     k
 }
 
-// The unknown that comes after k others, in the first n lines.
-fn solve_across(
-    sys: System,
-    times: bool,
-    alpha: Real64,
-    a: &[f64],
-    b: &mut [f64],
-    n: usize,
-    k: usize,
-)
+// Whether some pivot is zero.
+fn any_zero(sys: System, a: &[f64]) -> bool
+    requires { ⌜ Pivots sys (real64 .count (now a)) ⌝ }
+    ensures { λ r. ⌜ r ≡ solve.anyZero real64 sys (now (a .entry)) ⌝ }
+{
+    let diag = sys.diag;
+    let m = rows(sys.b);
+    let mut q = 0;
+    while q < m {
+        if zero_pivot(diag, a, sys.a, q, place(sys.a, q, q)) {
+            return true;
+        }
+        q += 1;
+    }
+    false
+}
+
+// How many unknowns come before the first zero pivot, all where there is none.
+fn reached(sys: System, a: &[f64]) -> usize
+    requires { ⌜ Pivots sys (real64 .count (now a)) ⌝ }
+    ensures { λ r. ⌜ r ≡ solve.firstZero real64 sys (now (a .entry)) ⌝ }
+{
+    if any_zero(sys, a) {
+        first_zero(sys, a)
+    } else {
+        rows(sys.b)
+    }
+}
+
+// The unknown that comes after k others, in the first n lines, with A on the left.
+fn left_across(sys: System, alpha: Real64, a: &[f64], b: &mut [f64], n: usize, k: usize)
     requires { ⌜ Ready sys (real64 .count (now a)) (real64 .count (now b)) × ((n ≤ sys .b .cols) × (k < sys .b .rows)) ⌝ }
-    ensures { λ _. ⌜ now (b .exit) ≡ solve.solveAcross real64 sys (timesIf real64 times (alpha .0)) (now (a .entry)) n k (now (b .entry)) ⌝ }
+    ensures { λ _. ⌜ now (b .exit) ≡ solve.solveAcross real64 sys (real64 .mul (alpha .0)) (now (a .entry)) n k (now (b .entry)) ⌝ }
 {
     let mut l = 0;
     while l < n {
-        solve_one(sys, times, alpha, a, b, k, l);
+        left_one(sys, alpha, a, b, k, l);
         l += 1;
     }
 }
 
-// The first m unknowns, one after another, each in the first n lines.
-fn solve_unknowns(
-    sys: System,
-    times: bool,
-    alpha: Real64,
-    a: &[f64],
-    b: &mut [f64],
-    n: usize,
-    m: usize,
-)
+// The first m unknowns, one after another, each in the first n lines, with A on the left.
+fn left_unknowns(sys: System, alpha: Real64, a: &[f64], b: &mut [f64], n: usize, m: usize)
     requires { ⌜ Ready sys (real64 .count (now a)) (real64 .count (now b)) × ((n ≤ sys .b .cols) × (m ≤ sys .b .rows)) ⌝ }
-    ensures { λ _. ⌜ now (b .exit) ≡ solve.solveUnknowns real64 sys (timesIf real64 times (alpha .0)) (now (a .entry)) n m (now (b .entry)) ⌝ }
+    ensures { λ _. ⌜ now (b .exit) ≡ solve.solveUnknowns real64 sys (real64 .mul (alpha .0)) (now (a .entry)) n m (now (b .entry)) ⌝ }
 {
     let mut k = 0;
     while k < m {
-        solve_across(sys, times, alpha, a, b, n, k);
+        left_across(sys, alpha, a, b, n, k);
         k += 1;
     }
 }
 
-// The unknowns before the first zero pivot, in every line; where a left solve stops there, in the first line alone.
-fn solve_lines(sys: System, times: bool, alpha: Real64, a: &[f64], b: &mut [f64]) -> Answer
+// The unknowns before the first zero pivot, in every line; in the first line alone where there is such a pivot.
+fn left_lines(sys: System, alpha: Real64, a: &[f64], b: &mut [f64]) -> Answer
     requires { ⌜ Ready sys (real64 .count (now a)) (real64 .count (now b)) ⌝ }
-    ensures { λ r. ⌜ solve.Solved real64 sys (timesIf real64 times (alpha .0)) (now (a .entry)) (now (b .entry)) r (now (b .exit)) ⌝ }
+    ensures { λ r. ⌜ solve.Solved real64 sys (real64 .mul (alpha .0)) (now (a .entry)) (now (b .entry)) r (now (b .exit)) ⌝ }
 {
     let side = sys.side;
-    let m = first_zero(sys, a);
+    let m = reached(sys, a);
     let stopped = stops(sys, m);
     let n = lines_solved(side, stopped, cols(sys.b));
-    solve_unknowns(sys, times, alpha, a, b, n, m);
+    left_unknowns(sys, alpha, a, b, n, m);
+    solved(stopped)
+}
+
+// The unknown that comes after k others, in the first n lines, with A on the right.
+fn right_across(sys: System, a: &[f64], b: &mut [f64], n: usize, k: usize)
+    requires { ⌜ Ready sys (real64 .count (now a)) (real64 .count (now b)) × ((n ≤ sys .b .cols) × (k < sys .b .rows)) ⌝ }
+    ensures { λ _. ⌜ now (b .exit) ≡ solve.solveAcross real64 sys (λ x. x) (now (a .entry)) n k (now (b .entry)) ⌝ }
+{
+    let mut l = 0;
+    while l < n {
+        right_one(sys, a, b, k, l);
+        l += 1;
+    }
+}
+
+// The first m unknowns, one after another, each in the first n lines, with A on the right.
+fn right_unknowns(sys: System, a: &[f64], b: &mut [f64], n: usize, m: usize)
+    requires { ⌜ Ready sys (real64 .count (now a)) (real64 .count (now b)) × ((n ≤ sys .b .cols) × (m ≤ sys .b .rows)) ⌝ }
+    ensures { λ _. ⌜ now (b .exit) ≡ solve.solveUnknowns real64 sys (λ x. x) (now (a .entry)) n m (now (b .entry)) ⌝ }
+{
+    let mut k = 0;
+    while k < m {
+        right_across(sys, a, b, n, k);
+        k += 1;
+    }
+}
+
+// The unknowns before the first zero pivot, in every line, with A on the right.
+fn right_lines(sys: System, a: &[f64], b: &mut [f64]) -> Answer
+    requires { ⌜ Ready sys (real64 .count (now a)) (real64 .count (now b)) ⌝ }
+    ensures { λ r. ⌜ solve.Solved real64 sys (λ x. x) (now (a .entry)) (now (b .entry)) r (now (b .exit)) ⌝ }
+{
+    let side = sys.side;
+    let m = reached(sys, a);
+    let stopped = stops(sys, m);
+    let n = lines_solved(side, stopped, cols(sys.b));
+    right_unknowns(sys, a, b, n, m);
     solved(stopped)
 }
 
@@ -434,15 +524,41 @@ fn scale(alpha: Real64, b: &mut [f64], vb: View)
     }
 }
 
-// All of B times alpha on the right side, which multiplies before it solves; the left side multiplies where it solves.
-fn scale_right(side: Side, alpha: Real64, b: &mut [f64], vb: View)
-    requires { ⌜ Accepted vb (real64 .count (now b)) ⌝ }
-    ensures { λ _. ⌜ now (b .exit) ≡ triangles.scaledRight real64 side (alpha .0) vb (now (b .entry)) ⌝ }
+// The solve with A on the left, which multiplies by alpha where it solves.
+fn solve_left(
+    uplo: UpLo,
+    t: Trans,
+    diag: Diag,
+    alpha: Real64,
+    a: &[f64],
+    va: View,
+    b: &mut [f64],
+    vb: View,
+) -> Answer
+    requires { ⌜ Sided Side.Left va (real64 .count (now a)) vb (real64 .count (now b)) ⌝ }
+    ensures { λ r. ⌜ Gives real64 (sidedSolve real64 Side.Left uplo t diag (alpha .0) (elem real64 (now (a .entry)) va) vb (now (b .entry))) r (now (b .exit)) ⌝ }
 {
-    match side {
-        Side::Left => {}
-        Side::Right => scale(alpha, b, vb),
-    }
+    let sys = system_of(Side::Left, uplo, t, diag, va, vb);
+    left_lines(sys, alpha, a, b)
+}
+
+// The solve with A on the right, which multiplies all of B by alpha first.
+fn solve_right(
+    uplo: UpLo,
+    t: Trans,
+    diag: Diag,
+    alpha: Real64,
+    a: &[f64],
+    va: View,
+    b: &mut [f64],
+    vb: View,
+) -> Answer
+    requires { ⌜ Sided Side.Right va (real64 .count (now a)) vb (real64 .count (now b)) ⌝ }
+    ensures { λ r. ⌜ Gives real64 (sidedSolve real64 Side.Right uplo t diag (alpha .0) (elem real64 (now (a .entry)) va) vb (now (b .entry))) r (now (b .exit)) ⌝ }
+{
+    scale(alpha, b, vb);
+    let sys = system_of(Side::Right, uplo, t, diag, va, vb);
+    right_lines(sys, a, b)
 }
 
 // The solve of a side, with alpha.
@@ -460,9 +576,10 @@ fn sided(
     requires { ⌜ Sided side va (real64 .count (now a)) vb (real64 .count (now b)) ⌝ }
     ensures { λ r. ⌜ Gives real64 (sidedSolve real64 side uplo t diag (alpha .0) (elem real64 (now (a .entry)) va) vb (now (b .entry))) r (now (b .exit)) ⌝ }
 {
-    scale_right(side, alpha, b, vb);
-    let sys = system_of(side, uplo, t, diag, va, vb);
-    solve_lines(sys, is_left(side), alpha, a, b)
+    match side {
+        Side::Left => solve_left(uplo, t, diag, alpha, a, va, b, vb),
+        Side::Right => solve_right(uplo, t, diag, alpha, a, va, b, vb),
+    }
 }
 
 // What the diagonal weighs.
