@@ -378,6 +378,39 @@ pub fn gemm(
     answer
 }
 
+// Elements (i, j) and (i, l) of the target, with the left operand folded: their sums side by side, along one walk of its row.
+fn two_left_entries(
+    plan: Folded,
+    a: &[f32],
+    b: &[f32],
+    alpha: Real32,
+    beta: Beta32,
+    c: &mut [f32],
+    i: usize,
+    j: usize,
+    l: usize,
+)
+    requires { ⌜ FoldedReady plan (real32 .count (now a)) (real32 .count (now b)) (real32 .count (now c)) × ByRow plan × (i < plan .target .rows) × (j < plan .target .cols) × (l < plan .target .cols) ⌝ }
+    ensures { λ _. ⌜ now (c .exit) ≡ replaced real32 (plan .target) i l (foldedChange real32 plan (scaleBy32 beta) (real32 .mul (alpha .0)) (now (a .entry)) (now (b .entry)) i l) (replaced real32 (plan .target) i j (foldedChange real32 plan (scaleBy32 beta) (real32 .mul (alpha .0)) (now (a .entry)) (now (b .entry)) i j) (now (c .entry))) ⌝ }
+{
+    let n = plan.terms;
+    let before = col_step(plan.head.left);
+    let after = col_step(plan.tail.left);
+    let mut k = place(plan.head.left, i, 0);
+    let mut first = Real32::ZERO;
+    let mut second = Real32::ZERO;
+    let mut p = 0;
+    while p < n {
+        let x = get32(a, k);
+        first = first.add(x.mul(elem32(b, plan.head.right, p, j)));
+        second = second.add(x.mul(elem32(b, plan.head.right, p, l)));
+        k = next_place(k, before, after, i, p);
+        p += 1;
+    }
+    settle(plan.target, alpha, beta, c, i, j, first);
+    settle(plan.target, alpha, beta, c, i, l, second);
+}
+
 // Row i of symm with A on the left.
 fn symm_left_row(
     plan: Folded,
@@ -392,10 +425,14 @@ fn symm_left_row(
     ensures { λ _. ⌜ now (c .exit) ≡ rowOf real32 (plan .target) everywhere (foldedChange real32 plan (scaleBy32 beta) (real32 .mul (alpha .0)) (now (a .entry)) (now (b .entry))) i (plan .target .cols) (now (c .entry)) ⌝ }
 {
     let n = cols(plan.target);
+    let pairs = n / 2;
     let mut j = 0;
-    while j < n {
-        left_entry(plan, a, b, alpha, beta, c, i, j);
+    while j < pairs {
+        two_left_entries(plan, a, b, alpha, beta, c, i, 2 * j, 2 * j + 1);
         j += 1;
+    }
+    if 2 * j < n {
+        left_entry(plan, a, b, alpha, beta, c, i, 2 * j);
     }
 }
 
@@ -519,10 +556,14 @@ fn hemm_left_row(
     ensures { λ _. ⌜ now (c .exit) ≡ rowOf real32 (plan .target) everywhere (foldedChange real32 plan (scaleBy32 beta) (real32 .mul (alpha .0)) (now (a .entry)) (now (b .entry))) i (plan .target .cols) (now (c .entry)) ⌝ }
 {
     let n = cols(plan.target);
+    let pairs = n / 2;
     let mut j = 0;
-    while j < n {
-        left_entry(plan, a, b, alpha, beta, c, i, j);
+    while j < pairs {
+        two_left_entries(plan, a, b, alpha, beta, c, i, 2 * j, 2 * j + 1);
         j += 1;
+    }
+    if 2 * j < n {
+        left_entry(plan, a, b, alpha, beta, c, i, 2 * j);
     }
 }
 
