@@ -410,8 +410,8 @@ pub fn gemm(
     answer
 }
 
-// Row i of symm with A on the left.
-fn symm_left_row(
+// Row i of symm with the upper triangle of A on the left.
+fn symm_upper_row(
     plan: Folded,
     a: &[f64],
     b: &[f64],
@@ -433,8 +433,8 @@ fn symm_left_row(
     }
 }
 
-// The whole target of symm with A on the left.
-fn run_symm_left(
+// The whole target of symm with the upper triangle of A on the left.
+fn run_symm_upper(
     plan: Folded,
     a: &[f64],
     b: &[f64],
@@ -448,8 +448,86 @@ fn run_symm_left(
     let m = rows(plan.target);
     let mut i = 0;
     while i < m {
-        symm_left_row(plan, a, b, alpha, beta, c, i);
+        symm_upper_row(plan, a, b, alpha, beta, c, i);
         i += 1;
+    }
+}
+
+// Row i of symm with the lower triangle of A on the left.
+fn symm_lower_row(
+    plan: Folded,
+    a: &[f64],
+    b: &[f64],
+    alpha: Multiplier,
+    beta: BetaComplex,
+    c: &mut [f64],
+    i: usize,
+)
+    requires { ⌜ FoldedReady plan (complex .count (now a)) (complex .count (now b)) (complex .count (now c)) × ByRow plan × (i < plan .target .rows) ⌝ }
+    ensures { λ _. ⌜ now (c .exit) ≡ rowOf complex (plan .target) everywhere (foldedChange complex plan (scaleByComplex beta) (times alpha) (now (a .entry)) (now (b .entry))) i (plan .target .cols) (now (c .entry)) ⌝ }
+{
+    let turn = plan.turn;
+    let k = turn_at(turn, i, 0, plan.terms);
+    let n = cols(plan.target);
+    let mut j = 0;
+    while j < n {
+        turned_entry(plan, k, a, b, alpha, beta, c, i, j);
+        j += 1;
+    }
+}
+
+// The whole target of symm with the lower triangle of A on the left.
+fn run_symm_lower(
+    plan: Folded,
+    a: &[f64],
+    b: &[f64],
+    alpha: Multiplier,
+    beta: BetaComplex,
+    c: &mut [f64],
+)
+    requires { ⌜ FoldedReady plan (complex .count (now a)) (complex .count (now b)) (complex .count (now c)) × ByRow plan ⌝ }
+    ensures { λ _. ⌜ now (c .exit) ≡ update complex (plan .target) everywhere (foldedChange complex plan (scaleByComplex beta) (times alpha) (now (a .entry)) (now (b .entry))) (now (c .entry)) ⌝ }
+{
+    let m = rows(plan.target);
+    let mut i = 0;
+    while i < m {
+        symm_lower_row(plan, a, b, alpha, beta, c, i);
+        i += 1;
+    }
+}
+
+// symm with A on the left: each triangle has loops of its own.
+fn symm_left(
+    uplo: UpLo,
+    alpha: Multiplier,
+    a: &[f64],
+    va: View,
+    b: &[f64],
+    vb: View,
+    beta: BetaComplex,
+    c: &mut [f64],
+    vc: View,
+)
+    requires { ⌜ ReadySided Side.Left false uplo va (complex .count (now a)) vb (complex .count (now b)) vc (complex .count (now c)) ⌝ }
+    ensures { λ _. ⌜ now (c .exit) ≡ sidedWork complex Side.Left false uplo va vb vc (scaleByComplex beta) (times alpha) (now (a .entry)) (now (b .entry)) (now (c .entry)) ⌝ }
+{
+    match uplo {
+        UpLo::Upper => run_symm_upper(
+            left_plan(false, UpLo::Upper, va, vb, rows(vc), vc),
+            a,
+            b,
+            alpha,
+            beta,
+            c,
+        ),
+        UpLo::Lower => run_symm_lower(
+            left_plan(false, UpLo::Lower, va, vb, rows(vc), vc),
+            a,
+            b,
+            alpha,
+            beta,
+            c,
+        ),
     }
 }
 
@@ -511,14 +589,7 @@ fn symm_sided(
     ensures { λ _. ⌜ now (c .exit) ≡ sidedWork complex side false uplo va vb vc (scaleByComplex beta) (times alpha) (now (a .entry)) (now (b .entry)) (now (c .entry)) ⌝ }
 {
     match side {
-        Side::Left => run_symm_left(
-            left_plan(false, uplo, va, vb, rows(vc), vc),
-            a,
-            b,
-            alpha,
-            beta,
-            c,
-        ),
+        Side::Left => symm_left(uplo, alpha, a, va, b, vb, beta, c, vc),
         Side::Right => run_symm_right(
             right_plan(false, uplo, va, vb, cols(vc), vc),
             b,
@@ -573,8 +644,8 @@ pub fn symm(
     answer
 }
 
-// Row i of hemm with A on the left.
-fn hemm_left_row(
+// Row i of hemm with the upper triangle of A on the left.
+fn hemm_upper_row(
     plan: Folded,
     a: &[f64],
     b: &[f64],
@@ -596,8 +667,8 @@ fn hemm_left_row(
     }
 }
 
-// The whole target of hemm with A on the left.
-fn run_hemm_left(
+// The whole target of hemm with the upper triangle of A on the left.
+fn run_hemm_upper(
     plan: Folded,
     a: &[f64],
     b: &[f64],
@@ -611,8 +682,86 @@ fn run_hemm_left(
     let m = rows(plan.target);
     let mut i = 0;
     while i < m {
-        hemm_left_row(plan, a, b, alpha, beta, c, i);
+        hemm_upper_row(plan, a, b, alpha, beta, c, i);
         i += 1;
+    }
+}
+
+// Row i of hemm with the lower triangle of A on the left.
+fn hemm_lower_row(
+    plan: Folded,
+    a: &[f64],
+    b: &[f64],
+    alpha: Multiplier,
+    beta: BetaComplex,
+    c: &mut [f64],
+    i: usize,
+)
+    requires { ⌜ FoldedReady plan (complex .count (now a)) (complex .count (now b)) (complex .count (now c)) × ByRow plan × (i < plan .target .rows) ⌝ }
+    ensures { λ _. ⌜ now (c .exit) ≡ rowOf complex (plan .target) everywhere (foldedChange complex plan (scaleByComplex beta) (times alpha) (now (a .entry)) (now (b .entry))) i (plan .target .cols) (now (c .entry)) ⌝ }
+{
+    let turn = plan.turn;
+    let k = turn_at(turn, i, 0, plan.terms);
+    let n = cols(plan.target);
+    let mut j = 0;
+    while j < n {
+        turned_entry(plan, k, a, b, alpha, beta, c, i, j);
+        j += 1;
+    }
+}
+
+// The whole target of hemm with the lower triangle of A on the left.
+fn run_hemm_lower(
+    plan: Folded,
+    a: &[f64],
+    b: &[f64],
+    alpha: Multiplier,
+    beta: BetaComplex,
+    c: &mut [f64],
+)
+    requires { ⌜ FoldedReady plan (complex .count (now a)) (complex .count (now b)) (complex .count (now c)) × ByRow plan ⌝ }
+    ensures { λ _. ⌜ now (c .exit) ≡ update complex (plan .target) everywhere (foldedChange complex plan (scaleByComplex beta) (times alpha) (now (a .entry)) (now (b .entry))) (now (c .entry)) ⌝ }
+{
+    let m = rows(plan.target);
+    let mut i = 0;
+    while i < m {
+        hemm_lower_row(plan, a, b, alpha, beta, c, i);
+        i += 1;
+    }
+}
+
+// hemm with A on the left: each triangle has loops of its own.
+fn hemm_left(
+    uplo: UpLo,
+    alpha: Multiplier,
+    a: &[f64],
+    va: View,
+    b: &[f64],
+    vb: View,
+    beta: BetaComplex,
+    c: &mut [f64],
+    vc: View,
+)
+    requires { ⌜ ReadySided Side.Left true uplo va (complex .count (now a)) vb (complex .count (now b)) vc (complex .count (now c)) ⌝ }
+    ensures { λ _. ⌜ now (c .exit) ≡ sidedWork complex Side.Left true uplo va vb vc (scaleByComplex beta) (times alpha) (now (a .entry)) (now (b .entry)) (now (c .entry)) ⌝ }
+{
+    match uplo {
+        UpLo::Upper => run_hemm_upper(
+            left_plan(true, UpLo::Upper, va, vb, rows(vc), vc),
+            a,
+            b,
+            alpha,
+            beta,
+            c,
+        ),
+        UpLo::Lower => run_hemm_lower(
+            left_plan(true, UpLo::Lower, va, vb, rows(vc), vc),
+            a,
+            b,
+            alpha,
+            beta,
+            c,
+        ),
     }
 }
 
@@ -674,14 +823,7 @@ fn hemm_sided(
     ensures { λ _. ⌜ now (c .exit) ≡ sidedWork complex side true uplo va vb vc (scaleByComplex beta) (times alpha) (now (a .entry)) (now (b .entry)) (now (c .entry)) ⌝ }
 {
     match side {
-        Side::Left => run_hemm_left(
-            left_plan(true, uplo, va, vb, rows(vc), vc),
-            a,
-            b,
-            alpha,
-            beta,
-            c,
-        ),
+        Side::Left => hemm_left(uplo, alpha, a, va, b, vb, beta, c, vc),
         Side::Right => run_hemm_right(
             right_plan(true, uplo, va, vb, cols(vc), vc),
             b,

@@ -5,14 +5,8 @@ use Rattle.product.proofs.complex.symm_sided.Tie as tie
 enum-told : tie.Need-enum-told
 enum-told c = search needs
 
-rows-requires : tie.Need-rows-requires
-rows-requires c κs = tt
-
-left-plan-requires : tie.Need-left-plan-requires
-left-plan-requires c κs = tt
-
-run-symm-left-requires : tie.Need-run-symm-left-requires
-run-symm-left-requires c κs = rw (c .before .left-plan .ensures, c .before .before .rows .ensures) (rw (c .before .before .before .enum-told .given .1) at (c .before .before .before .before .before .before .before .before .pre))
+symm-left-requires : tie.Need-symm-left-requires
+symm-left-requires c κs = rw (c .before .enum-told .given .1) at (c .before .before .before .before .before .before .pre)
 
 enum-told-2 : tie.Need-enum-told-2
 enum-told-2 c = search needs
@@ -30,7 +24,7 @@ same-length : tie.Need-same-length
 same-length c = search needs
 
 returns : tie.Need-returns
-returns c = rw (c .before .before .before .before .before .before .enum-told .given .1) (rw (c .before .before .before .before .left-plan .ensures, c .before .before .before .before .before .rows .ensures) at (c .before .before .run-symm-left .ensures))
+returns c = rw (c .before .before .before .before .enum-told .given .1) (c .before .before .symm-left .ensures)
 
 same-length-2 : tie.Need-same-length-2
 same-length-2 c = search needs
@@ -43,9 +37,7 @@ symm-sided-spec =
     tie.close
     (tie.spec
     enum-told
-    rows-requires
-    left-plan-requires
-    run-symm-left-requires
+    symm-left-requires
     enum-told-2
     cols-requires
     right-plan-requires

@@ -8,8 +8,8 @@ use Rattle.slab.specs.Update.{everywhere, row as rowOf}
 use Rattle.slab.proofs.LoopLaws.{row-last, put-next}
 use Rattle.product_plan.specs.Plan.{foldedChange}
 use Rattle.product_plan.proofs.Ready.{folded-kept}
-use Rattle.product.proofs.complex.hemm_left_row.Statement.{statement}
-use Rattle.product.proofs.complex.hemm_left_row.Tie as tie
+use Rattle.product.proofs.complex.symm_lower_row.Statement.{statement}
+use Rattle.product.proofs.complex.symm_lower_row.Tie as tie
 
 abbrev Inv-loop : tie.InvT-loop
 Inv-loop plan a b alpha beta c₀ i k n j₀ c j = (j ≤ n) × (length c ≡ length c₀) × (c ≡ rowOf complex (plan .target) everywhere (foldedChange complex plan (scaleByComplex beta) (times alpha) a b) i j c₀)
@@ -45,8 +45,8 @@ same-length c = c .before .loop .inv .1
 returns : tie.Need-returns Inv-loop μ-loop
 returns c = row-last _ _ _ _ _ _ _ _ _ (c .before .before .cols .ensures) (c .before .loop .inv .0) (omega arith) (c .before .loop .inv .2)
 
-pub hemm-left-row-spec : {M : Type 1} → statement M
-hemm-left-row-spec =
+pub symm-lower-row-spec : {M : Type 1} → statement M
+symm-lower-row-spec =
     tie.close
     (tie.spec
     Inv-loop
