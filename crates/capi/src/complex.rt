@@ -53,7 +53,7 @@ pub extern "C" fn zb_zgemv(
     let vx = view_of(xstart, xrows, xcols, xrs, xcs);
     let vy = view_of(ystart, yrows, ycols, yrs, ycs);
     if is_trans(trans) {
-        number(product::complex::gemv(
+        number(product_complex::gemv(
             trans_of(trans),
             Complex {
                 re: alphare,
@@ -108,7 +108,7 @@ pub extern "C" fn zb_zhemv(
     let vx = view_of(xstart, xrows, xcols, xrs, xcs);
     let vy = view_of(ystart, yrows, ycols, yrs, ycs);
     if is_uplo(uplo) {
-        number(product::complex::hemv(
+        number(product_complex::hemv(
             uplo_of(uplo),
             Complex {
                 re: alphare,
@@ -164,7 +164,7 @@ pub extern "C" fn zb_zgemm(
     let vb = view_of(bstart, brows, bcols, brs, bcs);
     let vc = view_of(cstart, crows, ccols, crs, ccs);
     if is_trans_trans(ta, tb) {
-        number(product::complex::gemm(
+        number(product_complex::gemm(
             trans_of(ta),
             trans_of(tb),
             Complex {
@@ -221,7 +221,7 @@ pub extern "C" fn zb_zsymm(
     let vb = view_of(bstart, brows, bcols, brs, bcs);
     let vc = view_of(cstart, crows, ccols, crs, ccs);
     if is_side_uplo(side, uplo) {
-        number(product::complex::symm(
+        number(product_complex::symm(
             side_of(side),
             uplo_of(uplo),
             Complex {
@@ -278,7 +278,7 @@ pub extern "C" fn zb_zhemm(
     let vb = view_of(bstart, brows, bcols, brs, bcs);
     let vc = view_of(cstart, crows, ccols, crs, ccs);
     if is_side_uplo(side, uplo) {
-        number(product::complex::hemm(
+        number(product_complex::hemm(
             side_of(side),
             uplo_of(uplo),
             Complex {
@@ -328,7 +328,7 @@ pub extern "C" fn zb_zsyrk(
     let va = view_of(astart, arows, acols, ars, acs);
     let vc = view_of(cstart, crows, ccols, crs, ccs);
     if is_uplo_trans(uplo, trans) {
-        number(product::complex::syrk(
+        number(product_complex::syrk(
             uplo_of(uplo),
             trans_of(trans),
             Complex {
@@ -374,7 +374,7 @@ pub extern "C" fn zb_zherk(
     let va = view_of(astart, arows, acols, ars, acs);
     let vc = view_of(cstart, crows, ccols, crs, ccs);
     if is_uplo_trans(uplo, trans) {
-        number(product::complex::herk(uplo_of(uplo), trans_of(trans), alpha, a, va, beta, c, vc))
+        number(product_complex::herk(uplo_of(uplo), trans_of(trans), alpha, a, va, beta, c, vc))
     } else {
         number(refuse2(va, a.len() / 2, vc, c.len() / 2))
     }
@@ -403,7 +403,7 @@ pub extern "C" fn zb_zher(
     let vx = view_of(xstart, xrows, xcols, xrs, xcs);
     let va = view_of(astart, arows, acols, ars, acs);
     if is_uplo(uplo) {
-        number(rank::complex::her(uplo_of(uplo), alpha, x, vx, a, va))
+        number(rank_complex::her(uplo_of(uplo), alpha, x, vx, a, va))
     } else {
         number(refuse2(vx, x.len() / 2, va, a.len() / 2))
     }
@@ -440,7 +440,7 @@ pub extern "C" fn zb_zher2(
     let vy = view_of(ystart, yrows, ycols, yrs, ycs);
     let va = view_of(astart, arows, acols, ars, acs);
     if is_uplo(uplo) {
-        number(rank::complex::her2(
+        number(rank_complex::her2(
             uplo_of(uplo),
             Complex {
                 re: alphare,
@@ -492,7 +492,7 @@ pub extern "C" fn zb_zsyr2k(
     let vb = view_of(bstart, brows, bcols, brs, bcs);
     let vc = view_of(cstart, crows, ccols, crs, ccs);
     if is_uplo_trans(uplo, trans) {
-        number(rank::complex::syr2k(
+        number(rank_complex::syr2k(
             uplo_of(uplo),
             trans_of(trans),
             Complex {
@@ -548,7 +548,7 @@ pub extern "C" fn zb_zher2k(
     let vb = view_of(bstart, brows, bcols, brs, bcs);
     let vc = view_of(cstart, crows, ccols, crs, ccs);
     if is_uplo_trans(uplo, trans) {
-        number(rank::complex::her2k(
+        number(rank_complex::her2k(
             uplo_of(uplo),
             trans_of(trans),
             Complex {
@@ -592,7 +592,7 @@ pub extern "C" fn zb_ztrmv(
     let va = view_of(astart, arows, acols, ars, acs);
     let vx = view_of(xstart, xrows, xcols, xrs, xcs);
     if is_uplo_trans_diag(uplo, trans, diag) {
-        number(triangle::complex::trmv(uplo_of(uplo), trans_of(trans), diag_of(diag), a, va, x, vx))
+        number(triangle_complex::trmv(uplo_of(uplo), trans_of(trans), diag_of(diag), a, va, x, vx))
     } else {
         number(refuse2(va, a.len() / 2, vx, x.len() / 2))
     }
@@ -622,7 +622,7 @@ pub extern "C" fn zb_ztrsv(
     let va = view_of(astart, arows, acols, ars, acs);
     let vx = view_of(xstart, xrows, xcols, xrs, xcs);
     if is_uplo_trans_diag(uplo, trans, diag) {
-        number(triangle::complex::trsv(uplo_of(uplo), trans_of(trans), diag_of(diag), a, va, x, vx))
+        number(triangle_complex::trsv(uplo_of(uplo), trans_of(trans), diag_of(diag), a, va, x, vx))
     } else {
         number(refuse2(va, a.len() / 2, vx, x.len() / 2))
     }
@@ -655,7 +655,7 @@ pub extern "C" fn zb_ztrmm(
     let va = view_of(astart, arows, acols, ars, acs);
     let vb = view_of(bstart, brows, bcols, brs, bcs);
     if is_side_uplo_trans_diag(side, uplo, trans, diag) {
-        number(triangle::complex::trmm(
+        number(triangle_complex::trmm(
             side_of(side),
             uplo_of(uplo),
             trans_of(trans),
@@ -701,7 +701,7 @@ pub extern "C" fn zb_ztrsm(
     let va = view_of(astart, arows, acols, ars, acs);
     let vb = view_of(bstart, brows, bcols, brs, bcs);
     if is_side_uplo_trans_diag(side, uplo, trans, diag) {
-        number(triangle::complex::trsm(
+        number(triangle_complex::trsm(
             side_of(side),
             uplo_of(uplo),
             trans_of(trans),

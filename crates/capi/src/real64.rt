@@ -51,7 +51,7 @@ pub extern "C" fn zb_dgemv(
     let vx = view_of(xstart, xrows, xcols, xrs, xcs);
     let vy = view_of(ystart, yrows, ycols, yrs, ycs);
     if is_trans(trans) {
-        number(product::real64::gemv(
+        number(product_real64::gemv(
             trans_of(trans),
             Real64(alpha),
             a,
@@ -98,7 +98,7 @@ pub extern "C" fn zb_dhemv(
     let vx = view_of(xstart, xrows, xcols, xrs, xcs);
     let vy = view_of(ystart, yrows, ycols, yrs, ycs);
     if is_uplo(uplo) {
-        number(product::real64::hemv(
+        number(product_real64::hemv(
             uplo_of(uplo),
             Real64(alpha),
             a,
@@ -146,7 +146,7 @@ pub extern "C" fn zb_dgemm(
     let vb = view_of(bstart, brows, bcols, brs, bcs);
     let vc = view_of(cstart, crows, ccols, crs, ccs);
     if is_trans_trans(ta, tb) {
-        number(product::real64::gemm(
+        number(product_real64::gemm(
             trans_of(ta),
             trans_of(tb),
             Real64(alpha),
@@ -195,7 +195,7 @@ pub extern "C" fn zb_dsymm(
     let vb = view_of(bstart, brows, bcols, brs, bcs);
     let vc = view_of(cstart, crows, ccols, crs, ccs);
     if is_side_uplo(side, uplo) {
-        number(product::real64::symm(
+        number(product_real64::symm(
             side_of(side),
             uplo_of(uplo),
             Real64(alpha),
@@ -244,7 +244,7 @@ pub extern "C" fn zb_dhemm(
     let vb = view_of(bstart, brows, bcols, brs, bcs);
     let vc = view_of(cstart, crows, ccols, crs, ccs);
     if is_side_uplo(side, uplo) {
-        number(product::real64::hemm(
+        number(product_real64::hemm(
             side_of(side),
             uplo_of(uplo),
             Real64(alpha),
@@ -286,7 +286,7 @@ pub extern "C" fn zb_dsyrk(
     let va = view_of(astart, arows, acols, ars, acs);
     let vc = view_of(cstart, crows, ccols, crs, ccs);
     if is_uplo_trans(uplo, trans) {
-        number(product::real64::syrk(
+        number(product_real64::syrk(
             uplo_of(uplo),
             trans_of(trans),
             Real64(alpha),
@@ -326,7 +326,7 @@ pub extern "C" fn zb_dherk(
     let va = view_of(astart, arows, acols, ars, acs);
     let vc = view_of(cstart, crows, ccols, crs, ccs);
     if is_uplo_trans(uplo, trans) {
-        number(product::real64::herk(uplo_of(uplo), trans_of(trans), alpha, a, va, beta, c, vc))
+        number(product_real64::herk(uplo_of(uplo), trans_of(trans), alpha, a, va, beta, c, vc))
     } else {
         number(refuse2(va, a.len(), vc, c.len()))
     }
@@ -355,7 +355,7 @@ pub extern "C" fn zb_dher(
     let vx = view_of(xstart, xrows, xcols, xrs, xcs);
     let va = view_of(astart, arows, acols, ars, acs);
     if is_uplo(uplo) {
-        number(rank::real64::her(uplo_of(uplo), alpha, x, vx, a, va))
+        number(rank_real64::her(uplo_of(uplo), alpha, x, vx, a, va))
     } else {
         number(refuse2(vx, x.len(), va, a.len()))
     }
@@ -391,7 +391,7 @@ pub extern "C" fn zb_dher2(
     let vy = view_of(ystart, yrows, ycols, yrs, ycs);
     let va = view_of(astart, arows, acols, ars, acs);
     if is_uplo(uplo) {
-        number(rank::real64::her2(uplo_of(uplo), Real64(alpha), x, vx, y, vy, a, va))
+        number(rank_real64::her2(uplo_of(uplo), Real64(alpha), x, vx, y, vy, a, va))
     } else {
         number(refuse3(vx, x.len(), vy, y.len(), va, a.len()))
     }
@@ -429,7 +429,7 @@ pub extern "C" fn zb_dsyr2k(
     let vb = view_of(bstart, brows, bcols, brs, bcs);
     let vc = view_of(cstart, crows, ccols, crs, ccs);
     if is_uplo_trans(uplo, trans) {
-        number(rank::real64::syr2k(
+        number(rank_real64::syr2k(
             uplo_of(uplo),
             trans_of(trans),
             Real64(alpha),
@@ -478,7 +478,7 @@ pub extern "C" fn zb_dher2k(
     let vb = view_of(bstart, brows, bcols, brs, bcs);
     let vc = view_of(cstart, crows, ccols, crs, ccs);
     if is_uplo_trans(uplo, trans) {
-        number(rank::real64::her2k(
+        number(rank_real64::her2k(
             uplo_of(uplo),
             trans_of(trans),
             Real64(alpha),
@@ -519,7 +519,7 @@ pub extern "C" fn zb_dtrmv(
     let va = view_of(astart, arows, acols, ars, acs);
     let vx = view_of(xstart, xrows, xcols, xrs, xcs);
     if is_uplo_trans_diag(uplo, trans, diag) {
-        number(triangle::real64::trmv(uplo_of(uplo), trans_of(trans), diag_of(diag), a, va, x, vx))
+        number(triangle_real64::trmv(uplo_of(uplo), trans_of(trans), diag_of(diag), a, va, x, vx))
     } else {
         number(refuse2(va, a.len(), vx, x.len()))
     }
@@ -549,7 +549,7 @@ pub extern "C" fn zb_dtrsv(
     let va = view_of(astart, arows, acols, ars, acs);
     let vx = view_of(xstart, xrows, xcols, xrs, xcs);
     if is_uplo_trans_diag(uplo, trans, diag) {
-        number(triangle::real64::trsv(uplo_of(uplo), trans_of(trans), diag_of(diag), a, va, x, vx))
+        number(triangle_real64::trsv(uplo_of(uplo), trans_of(trans), diag_of(diag), a, va, x, vx))
     } else {
         number(refuse2(va, a.len(), vx, x.len()))
     }
@@ -581,7 +581,7 @@ pub extern "C" fn zb_dtrmm(
     let va = view_of(astart, arows, acols, ars, acs);
     let vb = view_of(bstart, brows, bcols, brs, bcs);
     if is_side_uplo_trans_diag(side, uplo, trans, diag) {
-        number(triangle::real64::trmm(
+        number(triangle_real64::trmm(
             side_of(side),
             uplo_of(uplo),
             trans_of(trans),
@@ -623,7 +623,7 @@ pub extern "C" fn zb_dtrsm(
     let va = view_of(astart, arows, acols, ars, acs);
     let vb = view_of(bstart, brows, bcols, brs, bcs);
     if is_side_uplo_trans_diag(side, uplo, trans, diag) {
-        number(triangle::real64::trsm(
+        number(triangle_real64::trsm(
             side_of(side),
             uplo_of(uplo),
             trans_of(trans),

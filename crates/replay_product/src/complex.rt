@@ -56,8 +56,8 @@ fn two_slabs(body: &[u8], a: &[f64], c: &mut [f64]) -> u8 {
     let va = list::view(body, 0);
     let vc = list::view(body, 1);
     match list::routine(body) {
-        9 => view::number(product::complex::syrk(u, t, alpha(body), a, va, beta(body), c, vc)),
-        10 => view::number(product::complex::herk(
+        9 => view::number(product_complex::syrk(u, t, alpha(body), a, va, beta(body), c, vc)),
+        10 => view::number(product_complex::herk(
             u,
             t,
             list::scalar64(body, 0),
@@ -81,11 +81,11 @@ fn three_slabs(body: &[u8], a: &[f64], b: &[f64], c: &mut [f64]) -> u8 {
     let v = trans(body, 1);
     let s = side(body, 0);
     match list::routine(body) {
-        0 => view::number(product::complex::gemv(t, p, a, va, b, vb, q, c, vc)),
-        1 => view::number(product::complex::hemv(uplo(body, 0), p, a, va, b, vb, q, c, vc)),
-        6 => view::number(product::complex::gemm(t, v, p, a, va, b, vb, q, c, vc)),
-        7 => view::number(product::complex::symm(s, uplo(body, 1), p, a, va, b, vb, q, c, vc)),
-        8 => view::number(product::complex::hemm(s, uplo(body, 1), p, a, va, b, vb, q, c, vc)),
+        0 => view::number(product_complex::gemv(t, p, a, va, b, vb, q, c, vc)),
+        1 => view::number(product_complex::hemv(uplo(body, 0), p, a, va, b, vb, q, c, vc)),
+        6 => view::number(product_complex::gemm(t, v, p, a, va, b, vb, q, c, vc)),
+        7 => view::number(product_complex::symm(s, uplo(body, 1), p, a, va, b, vb, q, c, vc)),
+        8 => view::number(product_complex::hemm(s, uplo(body, 1), p, a, va, b, vb, q, c, vc)),
         _ => 255,
     }
 }

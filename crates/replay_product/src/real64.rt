@@ -50,8 +50,8 @@ fn two_slabs(body: &[u8], a: &[f64], c: &mut [f64]) -> u8 {
     let va = list::view(body, 0);
     let vc = list::view(body, 1);
     match list::routine(body) {
-        9 => view::number(product::real64::syrk(u, t, alpha(body), a, va, beta(body), c, vc)),
-        10 => view::number(product::real64::herk(
+        9 => view::number(product_real64::syrk(u, t, alpha(body), a, va, beta(body), c, vc)),
+        10 => view::number(product_real64::herk(
             u,
             t,
             list::scalar64(body, 0),
@@ -75,11 +75,11 @@ fn three_slabs(body: &[u8], a: &[f64], b: &[f64], c: &mut [f64]) -> u8 {
     let v = trans(body, 1);
     let s = side(body, 0);
     match list::routine(body) {
-        0 => view::number(product::real64::gemv(t, p, a, va, b, vb, q, c, vc)),
-        1 => view::number(product::real64::hemv(uplo(body, 0), p, a, va, b, vb, q, c, vc)),
-        6 => view::number(product::real64::gemm(t, v, p, a, va, b, vb, q, c, vc)),
-        7 => view::number(product::real64::symm(s, uplo(body, 1), p, a, va, b, vb, q, c, vc)),
-        8 => view::number(product::real64::hemm(s, uplo(body, 1), p, a, va, b, vb, q, c, vc)),
+        0 => view::number(product_real64::gemv(t, p, a, va, b, vb, q, c, vc)),
+        1 => view::number(product_real64::hemv(uplo(body, 0), p, a, va, b, vb, q, c, vc)),
+        6 => view::number(product_real64::gemm(t, v, p, a, va, b, vb, q, c, vc)),
+        7 => view::number(product_real64::symm(s, uplo(body, 1), p, a, va, b, vb, q, c, vc)),
+        8 => view::number(product_real64::hemm(s, uplo(body, 1), p, a, va, b, vb, q, c, vc)),
         _ => 255,
     }
 }

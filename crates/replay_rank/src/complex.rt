@@ -54,7 +54,7 @@ fn two_slabs(body: &[u8], x: &[f64], a: &mut [f64]) -> u8 {
     let vx = list::view(body, 0);
     let va = list::view(body, 1);
     match list::routine(body) {
-        2 => view::number(rank::complex::her(u, list::scalar64(body, 0), x, vx, a, va)),
+        2 => view::number(rank_complex::her(u, list::scalar64(body, 0), x, vx, a, va)),
         _ => 255,
     }
 }
@@ -67,9 +67,9 @@ fn three_slabs(body: &[u8], a: &[f64], b: &[f64], c: &mut [f64]) -> u8 {
     let vb = list::view(body, 1);
     let vc = list::view(body, 2);
     match list::routine(body) {
-        3 => view::number(rank::complex::her2(u, p, a, va, b, vb, c, vc)),
-        11 => view::number(rank::complex::syr2k(u, t, p, a, va, b, vb, beta(body), c, vc)),
-        12 => view::number(rank::complex::her2k(
+        3 => view::number(rank_complex::her2(u, p, a, va, b, vb, c, vc)),
+        11 => view::number(rank_complex::syr2k(u, t, p, a, va, b, vb, beta(body), c, vc)),
+        12 => view::number(rank_complex::her2k(
             u,
             t,
             p,

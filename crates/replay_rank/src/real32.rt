@@ -48,7 +48,7 @@ fn two_slabs(body: &[u8], x: &[f32], a: &mut [f32]) -> u8 {
     let vx = list::view(body, 0);
     let va = list::view(body, 1);
     match list::routine(body) {
-        2 => view::number(rank::real32::her(u, list::scalar32(body, 0), x, vx, a, va)),
+        2 => view::number(rank_real32::her(u, list::scalar32(body, 0), x, vx, a, va)),
         _ => 255,
     }
 }
@@ -61,9 +61,9 @@ fn three_slabs(body: &[u8], a: &[f32], b: &[f32], c: &mut [f32]) -> u8 {
     let vb = list::view(body, 1);
     let vc = list::view(body, 2);
     match list::routine(body) {
-        3 => view::number(rank::real32::her2(u, p, a, va, b, vb, c, vc)),
-        11 => view::number(rank::real32::syr2k(u, t, p, a, va, b, vb, beta(body), c, vc)),
-        12 => view::number(rank::real32::her2k(
+        3 => view::number(rank_real32::her2(u, p, a, va, b, vb, c, vc)),
+        11 => view::number(rank_real32::syr2k(u, t, p, a, va, b, vb, beta(body), c, vc)),
+        12 => view::number(rank_real32::her2k(
             u,
             t,
             p,

@@ -47,7 +47,7 @@ fn trmv(body: &[u8], a: &[f64], x: &mut [f64]) -> u8 {
     let d = diag(body, 2);
     let va = list::view(body, 0);
     let vx = list::view(body, 1);
-    view::number(triangle::complex::trmv(u, t, d, a, va, x, vx))
+    view::number(triangle_complex::trmv(u, t, d, a, va, x, vx))
 }
 
 fn trsv(body: &[u8], a: &[f64], x: &mut [f64]) -> u8 {
@@ -56,7 +56,7 @@ fn trsv(body: &[u8], a: &[f64], x: &mut [f64]) -> u8 {
     let d = diag(body, 2);
     let va = list::view(body, 0);
     let vx = list::view(body, 1);
-    view::number(triangle::complex::trsv(u, t, d, a, va, x, vx))
+    view::number(triangle_complex::trsv(u, t, d, a, va, x, vx))
 }
 
 fn trmm(body: &[u8], a: &[f64], b: &mut [f64]) -> u8 {
@@ -66,7 +66,7 @@ fn trmm(body: &[u8], a: &[f64], b: &mut [f64]) -> u8 {
     let d = diag(body, 3);
     let va = list::view(body, 0);
     let vb = list::view(body, 1);
-    view::number(triangle::complex::trmm(s, u, t, d, alpha(body), a, va, b, vb))
+    view::number(triangle_complex::trmm(s, u, t, d, alpha(body), a, va, b, vb))
 }
 
 fn trsm(body: &[u8], a: &[f64], b: &mut [f64]) -> u8 {
@@ -76,5 +76,5 @@ fn trsm(body: &[u8], a: &[f64], b: &mut [f64]) -> u8 {
     let d = diag(body, 3);
     let va = list::view(body, 0);
     let vb = list::view(body, 1);
-    view::number(triangle::complex::trsm(s, u, t, d, alpha(body), a, va, b, vb))
+    view::number(triangle_complex::trsm(s, u, t, d, alpha(body), a, va, b, vb))
 }

@@ -44,7 +44,7 @@ fn trmv(body: &[u8], a: &[f32], x: &mut [f32]) -> u8 {
     let d = diag(body, 2);
     let va = list::view(body, 0);
     let vx = list::view(body, 1);
-    view::number(triangle::real32::trmv(u, t, d, a, va, x, vx))
+    view::number(triangle_real32::trmv(u, t, d, a, va, x, vx))
 }
 
 fn trsv(body: &[u8], a: &[f32], x: &mut [f32]) -> u8 {
@@ -53,7 +53,7 @@ fn trsv(body: &[u8], a: &[f32], x: &mut [f32]) -> u8 {
     let d = diag(body, 2);
     let va = list::view(body, 0);
     let vx = list::view(body, 1);
-    view::number(triangle::real32::trsv(u, t, d, a, va, x, vx))
+    view::number(triangle_real32::trsv(u, t, d, a, va, x, vx))
 }
 
 fn trmm(body: &[u8], a: &[f32], b: &mut [f32]) -> u8 {
@@ -63,7 +63,7 @@ fn trmm(body: &[u8], a: &[f32], b: &mut [f32]) -> u8 {
     let d = diag(body, 3);
     let va = list::view(body, 0);
     let vb = list::view(body, 1);
-    view::number(triangle::real32::trmm(s, u, t, d, alpha(body), a, va, b, vb))
+    view::number(triangle_real32::trmm(s, u, t, d, alpha(body), a, va, b, vb))
 }
 
 fn trsm(body: &[u8], a: &[f32], b: &mut [f32]) -> u8 {
@@ -73,5 +73,5 @@ fn trsm(body: &[u8], a: &[f32], b: &mut [f32]) -> u8 {
     let d = diag(body, 3);
     let va = list::view(body, 0);
     let vb = list::view(body, 1);
-    view::number(triangle::real32::trsm(s, u, t, d, alpha(body), a, va, b, vb))
+    view::number(triangle_real32::trsm(s, u, t, d, alpha(body), a, va, b, vb))
 }

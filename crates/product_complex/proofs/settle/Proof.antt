@@ -1,0 +1,46 @@
+use native.Mathlib.Omega.{arith}
+use denote.Ref.{now}
+use borrow.Author.Needs.{needs}
+use Rattle.number.specs.Scaling.{scaleByComplex, times}
+use Rattle.number.specs.Kind.{complex}
+use Rattle.slab.proofs.Shown.{shown, inside}
+use Rattle.product_plan.proofs.Rows.{put-replaced}
+use Rattle.product_complex.proofs.settle.Statement.{statement}
+use Rattle.product_complex.proofs.settle.Tie as tie
+
+place-requires : tie.Need-place-requires
+place-requires c κs = shown _ _ _ _ (c .before .pre) (omega arith)
+
+get-complex-requires : tie.Need-get-complex-requires
+get-complex-requires c κs = inside _ _ _ _ (c .before .before .before .pre) _ (c .before .place .ensures)
+
+scale-requires : tie.Need-scale-requires
+scale-requires c κs = tt
+
+times-requires : tie.Need-times-requires
+times-requires c κs = tt
+
+add-requires : tie.Need-add-requires
+add-requires c κs = tt
+
+put-complex-requires : tie.Need-put-complex-requires
+put-complex-requires c κs = inside _ _ _ _ (c .before .before .before .before .before .before .before .before .pre) _ (c .before .before .before .before .before .before .place .ensures)
+
+same-length : tie.Need-same-length
+same-length c = search needs
+
+returns : tie.Need-returns
+returns c = let p = c .before .before .before .before .before .before .before .before .before .before .before .args in put-replaced complex (p .v) (p .i) (p .j) (scaleByComplex (p .beta)) (times (p .alpha)) (p .sum) (now (p .c)) _ _ _ _ _ _ (c .before .before .before .before .before .before .before .before .before .place .ensures) (c .before .before .before .before .before .before .before .get-complex .ensures) (c .before .before .before .before .before .scale .ensures) (c .before .before .before .before .times .ensures) (c .before .before .before .add .ensures) (c .before .before .put-complex .ensures)
+
+pub settle-spec : {M : Type 1} → statement M
+settle-spec =
+    tie.close
+    (tie.spec
+    place-requires
+    get-complex-requires
+    scale-requires
+    times-requires
+    add-requires
+    put-complex-requires
+    same-length
+    returns)

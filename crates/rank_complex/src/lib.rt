@@ -1,0 +1,618 @@
+// The rank updates of complex numbers.
+// Translated from control-rs; NOTICE names the source.
+
+ghost use mathlib.Core.Path.{_≡_};
+ghost use Prim.Native.Nat.{_<_};
+ghost use Rattle.number.specs.Kind.{complex};
+ghost use Rattle.number.specs.Scaling.{scaleByComplex};
+ghost use Rattle.view.specs.Place.{index};
+ghost use Rattle.view.specs.Triangle.{inTriangle};
+ghost use Rattle.slab.specs.Elem.{elem, lent, Shows};
+ghost use Rattle.slab.specs.Update.{row, update};
+ghost use Rattle.blas.specs.Outcome.{Gives};
+ghost use Rattle.blas.specs.Her;
+ghost use Rattle.blas.specs.Her2;
+ghost use Rattle.blas.specs.Her2k;
+ghost use Rattle.blas.specs.Syr2k;
+ghost use Rattle.rank_plan.specs.Change.{replaced, reading, addOne, addTwo, pairAt, pairsAt, weighedAt, weighedsAt, syr2kChange, her2kChange};
+ghost use Rattle.rank_plan.specs.Ready.{One, Two, RowAt, Entry, Paired};
+use judge::check_her;
+use judge::check_her2;
+use judge::check_her2k;
+use judge::check_syr2k;
+use judge::quick_her;
+use judge::quick_her2;
+use judge::quick_syr2k;
+use number::BetaComplex;
+use number::Complex;
+use rank_plan::Plan;
+use rank_plan::her2k_plan;
+use rank_plan::syr2k_plan;
+use slab::elem_complex;
+use slab::get_complex;
+use slab::put_complex;
+use std::num::wrapping_add_usize;
+use view::Answer;
+use view::Trans;
+use view::UpLo;
+use view::View;
+use view::col_step;
+use view::cols;
+use view::column;
+use view::diagonal_step;
+use view::end_col;
+use view::first_col;
+use view::passed;
+use view::place;
+use view::row_step;
+use view::rows;
+
+// Element (i, j) of a matrix, conjugated where asked.
+fn read(conj: bool, s: &[f64], v: View, i: usize, j: usize) -> Complex
+    requires { ⌜ Shows v (complex .count (now s)) i j ⌝ }
+    ensures { λ r. ⌜ r ≡ reading complex conj (now (s .entry)) v i j ⌝ }
+{
+    let x = elem_complex(s, v, i, j);
+    if conj { x.conj() } else { x }
+}
+
+// Element (i, j) of her's target, at place t, where w is alpha·xi and xj is at place u.
+fn her_entry(
+    w: Complex,
+    x: &[f64],
+    vx: View,
+    u: usize,
+    a: &mut [f64],
+    va: View,
+    t: usize,
+    i: usize,
+    j: usize,
+)
+    requires { ⌜ Shows vx (complex .count (now x)) j 0 × Shows va (complex .count (now a)) i j × (u ≡ index vx j 0) × (t ≡ index va i j) ⌝ }
+    ensures { λ _. ⌜ now (a .exit) ≡ replaced complex va i j (addOne complex w (elem complex (now (x .entry)) vx) j) (now (a .entry)) ⌝ }
+{
+    let old = get_complex(a, t);
+    let term = w.mul(get_complex(x, u).conj());
+    put_complex(a, t, old.add(term));
+}
+
+// Row i of her's target: xi is at place `own`, the row's first element at t and its factor in x at u.
+fn her_row(
+    uplo: UpLo,
+    alpha: f64,
+    x: &[f64],
+    vx: View,
+    own: usize,
+    u: usize,
+    a: &mut [f64],
+    va: View,
+    t: usize,
+    i: usize,
+    begin: usize,
+    n: usize,
+)
+    requires { ⌜ One vx (complex .count (now x)) va (complex .count (now a)) × RowAt uplo vx va i own u t begin n ⌝ }
+    ensures { λ _. ⌜ now (a .exit) ≡ row complex va (inTriangle uplo) (Her.herChange complex alpha (elem complex (now (x .entry)) vx)) i (va .cols) (now (a .entry)) ⌝ }
+{
+    let w = get_complex(x, own).scale_real(alpha);
+    let along = col_step(va);
+    let down = row_step(vx);
+    let mut at = t;
+    let mut by = u;
+    let mut j = 0;
+    while j < n {
+        her_entry(w, x, vx, by, a, va, at, i, begin + j);
+        at = wrapping_add_usize(at, along);
+        by = wrapping_add_usize(by, down);
+        j += 1;
+    }
+}
+
+// The upper triangle of her's target, by rows from the diagonal on; x is a column.
+fn her_upper(alpha: f64, x: &[f64], vx: View, a: &mut [f64], va: View)
+    requires { ⌜ One vx (complex .count (now x)) va (complex .count (now a)) ⌝ }
+    ensures { λ _. ⌜ now (a .exit) ≡ update complex va (inTriangle UpLo.Upper) (Her.herChange complex alpha (elem complex (now (x .entry)) vx)) (now (a .entry)) ⌝ }
+{
+    let m = rows(va);
+    let down = row_step(vx);
+    let diagonal = diagonal_step(va);
+    let mut own = vx.start;
+    let mut t = va.start;
+    let mut i = 0;
+    while i < m {
+        her_row(UpLo::Upper, alpha, x, vx, own, own, a, va, t, i, i, m - i);
+        own = wrapping_add_usize(own, down);
+        t = wrapping_add_usize(t, diagonal);
+        i += 1;
+    }
+}
+
+// The lower triangle of her's target, by rows up to the diagonal; x is a column.
+fn her_lower(alpha: f64, x: &[f64], vx: View, a: &mut [f64], va: View)
+    requires { ⌜ One vx (complex .count (now x)) va (complex .count (now a)) ⌝ }
+    ensures { λ _. ⌜ now (a .exit) ≡ update complex va (inTriangle UpLo.Lower) (Her.herChange complex alpha (elem complex (now (x .entry)) vx)) (now (a .entry)) ⌝ }
+{
+    let m = rows(va);
+    let down = row_step(vx);
+    let fall = row_step(va);
+    let mut own = vx.start;
+    let mut t = va.start;
+    let mut i = 0;
+    while i < m {
+        her_row(
+            UpLo::Lower,
+            alpha,
+            x,
+            vx,
+            own,
+            vx.start,
+            a,
+            va,
+            t,
+            i,
+            0,
+            i + 1,
+        );
+        own = wrapping_add_usize(own, down);
+        t = wrapping_add_usize(t, fall);
+        i += 1;
+    }
+}
+
+// The whole of her's target; x is a column.
+fn her_rows(uplo: UpLo, alpha: f64, x: &[f64], vx: View, a: &mut [f64], va: View)
+    requires { ⌜ One vx (complex .count (now x)) va (complex .count (now a)) ⌝ }
+    ensures { λ _. ⌜ now (a .exit) ≡ update complex va (inTriangle uplo) (Her.herChange complex alpha (elem complex (now (x .entry)) vx)) (now (a .entry)) ⌝ }
+{
+    match uplo {
+        UpLo::Upper => her_upper(alpha, x, vx, a, va),
+        UpLo::Lower => her_lower(alpha, x, vx, a, va),
+    }
+}
+
+// Element (i, j) of her2's target, at place t, where w is alpha·xi and w2 is conj(alpha)·yi, xj is at place u and yj at place z.
+fn her2_entry(
+    w: Complex,
+    w2: Complex,
+    x: &[f64],
+    vx: View,
+    u: usize,
+    y: &[f64],
+    vy: View,
+    z: usize,
+    a: &mut [f64],
+    va: View,
+    t: usize,
+    i: usize,
+    j: usize,
+)
+    requires { ⌜ Shows vx (complex .count (now x)) j 0 × Shows vy (complex .count (now y)) j 0 × Shows va (complex .count (now a)) i j × (u ≡ index vx j 0) × (z ≡ index vy j 0) × (t ≡ index va i j) ⌝ }
+    ensures { λ _. ⌜ now (a .exit) ≡ replaced complex va i j (addTwo complex w w2 (elem complex (now (x .entry)) vx) (elem complex (now (y .entry)) vy) j) (now (a .entry)) ⌝ }
+{
+    let old = get_complex(a, t);
+    let first = w.mul(get_complex(y, z).conj());
+    let second = w2.mul(get_complex(x, u).conj());
+    put_complex(a, t, old.add(first).add(second));
+}
+
+// Row i of her2's target: xi and yi are at places `ownx` and `owny`, the row's first element at t and its factors in x and y at u and z.
+fn her2_row(
+    uplo: UpLo,
+    alpha: Complex,
+    x: &[f64],
+    vx: View,
+    ownx: usize,
+    u: usize,
+    y: &[f64],
+    vy: View,
+    owny: usize,
+    z: usize,
+    a: &mut [f64],
+    va: View,
+    t: usize,
+    i: usize,
+    begin: usize,
+    n: usize,
+)
+    requires { ⌜ Two vx (complex .count (now x)) vy (complex .count (now y)) va (complex .count (now a)) × RowAt uplo vx va i ownx u t begin n × RowAt uplo vy va i owny z t begin n ⌝ }
+    ensures { λ _. ⌜ now (a .exit) ≡ row complex va (inTriangle uplo) (Her2.her2Change complex alpha (elem complex (now (x .entry)) vx) (elem complex (now (y .entry)) vy)) i (va .cols) (now (a .entry)) ⌝ }
+{
+    let w = alpha.mul(get_complex(x, ownx));
+    let conjugate = alpha.conj();
+    let w2 = conjugate.mul(get_complex(y, owny));
+    let along = col_step(va);
+    let downx = row_step(vx);
+    let downy = row_step(vy);
+    let mut at = t;
+    let mut byx = u;
+    let mut byy = z;
+    let mut j = 0;
+    while j < n {
+        her2_entry(w, w2, x, vx, byx, y, vy, byy, a, va, at, i, begin + j);
+        at = wrapping_add_usize(at, along);
+        byx = wrapping_add_usize(byx, downx);
+        byy = wrapping_add_usize(byy, downy);
+        j += 1;
+    }
+}
+
+// The upper triangle of her2's target, by rows from the diagonal on; x and y are columns.
+fn her2_upper(alpha: Complex, x: &[f64], vx: View, y: &[f64], vy: View, a: &mut [f64], va: View)
+    requires { ⌜ Two vx (complex .count (now x)) vy (complex .count (now y)) va (complex .count (now a)) ⌝ }
+    ensures { λ _. ⌜ now (a .exit) ≡ update complex va (inTriangle UpLo.Upper) (Her2.her2Change complex alpha (elem complex (now (x .entry)) vx) (elem complex (now (y .entry)) vy)) (now (a .entry)) ⌝ }
+{
+    let m = rows(va);
+    let downx = row_step(vx);
+    let downy = row_step(vy);
+    let diagonal = diagonal_step(va);
+    let mut ownx = vx.start;
+    let mut owny = vy.start;
+    let mut t = va.start;
+    let mut i = 0;
+    while i < m {
+        her2_row(
+            UpLo::Upper,
+            alpha,
+            x,
+            vx,
+            ownx,
+            ownx,
+            y,
+            vy,
+            owny,
+            owny,
+            a,
+            va,
+            t,
+            i,
+            i,
+            m - i,
+        );
+        ownx = wrapping_add_usize(ownx, downx);
+        owny = wrapping_add_usize(owny, downy);
+        t = wrapping_add_usize(t, diagonal);
+        i += 1;
+    }
+}
+
+// The lower triangle of her2's target, by rows up to the diagonal; x and y are columns.
+fn her2_lower(alpha: Complex, x: &[f64], vx: View, y: &[f64], vy: View, a: &mut [f64], va: View)
+    requires { ⌜ Two vx (complex .count (now x)) vy (complex .count (now y)) va (complex .count (now a)) ⌝ }
+    ensures { λ _. ⌜ now (a .exit) ≡ update complex va (inTriangle UpLo.Lower) (Her2.her2Change complex alpha (elem complex (now (x .entry)) vx) (elem complex (now (y .entry)) vy)) (now (a .entry)) ⌝ }
+{
+    let m = rows(va);
+    let downx = row_step(vx);
+    let downy = row_step(vy);
+    let fall = row_step(va);
+    let mut ownx = vx.start;
+    let mut owny = vy.start;
+    let mut t = va.start;
+    let mut i = 0;
+    while i < m {
+        her2_row(
+            UpLo::Lower,
+            alpha,
+            x,
+            vx,
+            ownx,
+            vx.start,
+            y,
+            vy,
+            owny,
+            vy.start,
+            a,
+            va,
+            t,
+            i,
+            0,
+            i + 1,
+        );
+        ownx = wrapping_add_usize(ownx, downx);
+        owny = wrapping_add_usize(owny, downy);
+        t = wrapping_add_usize(t, fall);
+        i += 1;
+    }
+}
+
+// The whole of her2's target; x and y are columns.
+fn her2_rows(
+    uplo: UpLo,
+    alpha: Complex,
+    x: &[f64],
+    vx: View,
+    y: &[f64],
+    vy: View,
+    a: &mut [f64],
+    va: View,
+)
+    requires { ⌜ Two vx (complex .count (now x)) vy (complex .count (now y)) va (complex .count (now a)) ⌝ }
+    ensures { λ _. ⌜ now (a .exit) ≡ update complex va (inTriangle uplo) (Her2.her2Change complex alpha (elem complex (now (x .entry)) vx) (elem complex (now (y .entry)) vy)) (now (a .entry)) ⌝ }
+{
+    match uplo {
+        UpLo::Upper => her2_upper(alpha, x, vx, y, vy, a, va),
+        UpLo::Lower => her2_lower(alpha, x, vx, y, vy, a, va),
+    }
+}
+
+// A sum, with the two products at p added one after the other.
+fn add_pair(plan: Plan, a: &[f64], b: &[f64], p: usize, i: usize, j: usize, sum: Complex) -> Complex
+    requires { ⌜ Entry plan (complex .count (now a)) (complex .count (now b)) i j × (p < plan .terms) ⌝ }
+    ensures { λ r. ⌜ r ≡ pairAt complex plan (now (a .entry)) (now (b .entry)) i j p sum ⌝ }
+{
+    let left = plan.left_conj;
+    let right = plan.right_conj;
+    let first = read(left, a, plan.left_a, i, p).mul(read(right, b, plan.right_b, p, j));
+    let second = read(left, b, plan.left_b, i, p).mul(read(right, a, plan.right_a, p, j));
+    sum.add(first).add(second)
+}
+
+// The sum of all pairs of products for element (i, j).
+fn pair_sum(plan: Plan, a: &[f64], b: &[f64], i: usize, j: usize) -> Complex
+    requires { ⌜ Entry plan (complex .count (now a)) (complex .count (now b)) i j ⌝ }
+    ensures { λ r. ⌜ r ≡ pairsAt complex plan (now (a .entry)) (now (b .entry)) i j (plan .terms) ⌝ }
+{
+    let n = plan.terms;
+    let mut sum = Complex::ZERO;
+    let mut p = 0;
+    while p < n {
+        sum = add_pair(plan, a, b, p, i, j, sum);
+        p += 1;
+    }
+    sum
+}
+
+// The same with the left factors weighed by alpha and by its conjugate.
+fn add_weighed(
+    alpha: Complex,
+    plan: Plan,
+    a: &[f64],
+    b: &[f64],
+    p: usize,
+    i: usize,
+    j: usize,
+    sum: Complex,
+) -> Complex
+    requires { ⌜ Entry plan (complex .count (now a)) (complex .count (now b)) i j × (p < plan .terms) ⌝ }
+    ensures { λ r. ⌜ r ≡ weighedAt complex plan (now (a .entry)) (now (b .entry)) alpha i j p sum ⌝ }
+{
+    let left = plan.left_conj;
+    let right = plan.right_conj;
+    let x = alpha.mul(read(left, a, plan.left_a, i, p));
+    let y = alpha.conj().mul(read(left, b, plan.left_b, i, p));
+    let first = x.mul(read(right, b, plan.right_b, p, j));
+    let second = y.mul(read(right, a, plan.right_a, p, j));
+    sum.add(first).add(second)
+}
+
+// The sum of all of them.
+fn weighed_sum(alpha: Complex, plan: Plan, a: &[f64], b: &[f64], i: usize, j: usize) -> Complex
+    requires { ⌜ Entry plan (complex .count (now a)) (complex .count (now b)) i j ⌝ }
+    ensures { λ r. ⌜ r ≡ weighedsAt complex plan (now (a .entry)) (now (b .entry)) alpha i j (plan .terms) ⌝ }
+{
+    let n = plan.terms;
+    let mut sum = Complex::ZERO;
+    let mut p = 0;
+    while p < n {
+        sum = add_weighed(alpha, plan, a, b, p, i, j, sum);
+        p += 1;
+    }
+    sum
+}
+
+// Element (i, j) of syr2k's target.
+fn syr2k_entry(
+    alpha: Complex,
+    beta: BetaComplex,
+    plan: Plan,
+    a: &[f64],
+    b: &[f64],
+    c: &mut [f64],
+    i: usize,
+    j: usize,
+)
+    requires { ⌜ Entry plan (complex .count (now a)) (complex .count (now b)) i j × Shows (plan .target) (complex .count (now c)) i j ⌝ }
+    ensures { λ _. ⌜ now (c .exit) ≡ replaced complex (plan .target) i j (syr2kChange complex plan (now (a .entry)) (now (b .entry)) alpha (scaleByComplex beta) i j) (now (c .entry)) ⌝ }
+{
+    let k = place(plan.target, i, j);
+    let old = beta.scale(get_complex(c, k));
+    let sum = pair_sum(plan, a, b, i, j);
+    put_complex(c, k, old.add(alpha.mul(sum)));
+}
+
+// Row i of syr2k's target.
+fn syr2k_row(
+    alpha: Complex,
+    beta: BetaComplex,
+    plan: Plan,
+    a: &[f64],
+    b: &[f64],
+    c: &mut [f64],
+    i: usize,
+)
+    requires { ⌜ Paired plan (complex .count (now a)) (complex .count (now b)) (complex .count (now c)) × (i < plan .target .rows) ⌝ }
+    ensures { λ _. ⌜ now (c .exit) ≡ row complex (plan .target) (inTriangle (plan .uplo)) (syr2kChange complex plan (now (a .entry)) (now (b .entry)) alpha (scaleByComplex beta)) i (plan .target .cols) (now (c .entry)) ⌝ }
+{
+    let uplo = plan.uplo;
+    let end = end_col(uplo, i, cols(plan.target));
+    let mut j = first_col(uplo, i);
+    while j < end {
+        syr2k_entry(alpha, beta, plan, a, b, c, i, j);
+        j += 1;
+    }
+}
+
+// The whole of syr2k's target.
+fn syr2k_rows(alpha: Complex, beta: BetaComplex, plan: Plan, a: &[f64], b: &[f64], c: &mut [f64])
+    requires { ⌜ Paired plan (complex .count (now a)) (complex .count (now b)) (complex .count (now c)) ⌝ }
+    ensures { λ _. ⌜ now (c .exit) ≡ update complex (plan .target) (inTriangle (plan .uplo)) (syr2kChange complex plan (now (a .entry)) (now (b .entry)) alpha (scaleByComplex beta)) (now (c .entry)) ⌝ }
+{
+    let m = rows(plan.target);
+    let mut i = 0;
+    while i < m {
+        syr2k_row(alpha, beta, plan, a, b, c, i);
+        i += 1;
+    }
+}
+
+// Element (i, j) of her2k's target.
+fn her2k_entry(
+    alpha: Complex,
+    beta: BetaComplex,
+    plan: Plan,
+    a: &[f64],
+    b: &[f64],
+    c: &mut [f64],
+    i: usize,
+    j: usize,
+)
+    requires { ⌜ Entry plan (complex .count (now a)) (complex .count (now b)) i j × Shows (plan .target) (complex .count (now c)) i j ⌝ }
+    ensures { λ _. ⌜ now (c .exit) ≡ replaced complex (plan .target) i j (her2kChange complex plan (now (a .entry)) (now (b .entry)) alpha (scaleByComplex beta) i j) (now (c .entry)) ⌝ }
+{
+    let k = place(plan.target, i, j);
+    let old = beta.scale(get_complex(c, k));
+    let sum = weighed_sum(alpha, plan, a, b, i, j);
+    put_complex(c, k, old.add(sum));
+}
+
+// Row i of her2k's target.
+fn her2k_row(
+    alpha: Complex,
+    beta: BetaComplex,
+    plan: Plan,
+    a: &[f64],
+    b: &[f64],
+    c: &mut [f64],
+    i: usize,
+)
+    requires { ⌜ Paired plan (complex .count (now a)) (complex .count (now b)) (complex .count (now c)) × (i < plan .target .rows) ⌝ }
+    ensures { λ _. ⌜ now (c .exit) ≡ row complex (plan .target) (inTriangle (plan .uplo)) (her2kChange complex plan (now (a .entry)) (now (b .entry)) alpha (scaleByComplex beta)) i (plan .target .cols) (now (c .entry)) ⌝ }
+{
+    let uplo = plan.uplo;
+    let end = end_col(uplo, i, cols(plan.target));
+    let mut j = first_col(uplo, i);
+    while j < end {
+        her2k_entry(alpha, beta, plan, a, b, c, i, j);
+        j += 1;
+    }
+}
+
+// The whole of her2k's target.
+fn her2k_rows(alpha: Complex, beta: BetaComplex, plan: Plan, a: &[f64], b: &[f64], c: &mut [f64])
+    requires { ⌜ Paired plan (complex .count (now a)) (complex .count (now b)) (complex .count (now c)) ⌝ }
+    ensures { λ _. ⌜ now (c .exit) ≡ update complex (plan .target) (inTriangle (plan .uplo)) (her2kChange complex plan (now (a .entry)) (now (b .entry)) alpha (scaleByComplex beta)) (now (c .entry)) ⌝ }
+{
+    let m = rows(plan.target);
+    let mut i = 0;
+    while i < m {
+        her2k_row(alpha, beta, plan, a, b, c, i);
+        i += 1;
+    }
+}
+
+// A ← A + alpha x xᴴ, in the named triangle, alpha real
+pub fn her(uplo: UpLo, alpha: f64, x: &[f64], vx: View, a: &mut [f64], va: View) -> Answer
+    ensures { λ r. ⌜ Gives complex (Her.her complex uplo alpha (lent complex (now (x .entry)) vx) (lent complex (now (a .entry)) va)) r (now (a .exit)) ⌝ }
+{
+    let quick = quick_her(vx, x.len() / 2, va, a.len() / 2);
+    let answer = check_her(quick, vx, x.len() / 2, va, a.len() / 2);
+    if passed(answer) {
+        her_rows(uplo, alpha, x, column(vx, va.rows), a, va);
+    }
+    answer
+}
+
+// A ← A + alpha x yᴴ + conj(alpha) y xᴴ, in the named triangle
+pub fn her2(
+    uplo: UpLo,
+    alpha: Complex,
+    x: &[f64],
+    vx: View,
+    y: &[f64],
+    vy: View,
+    a: &mut [f64],
+    va: View,
+) -> Answer
+    ensures { λ r. ⌜ Gives complex (Her2.her2 complex uplo alpha (lent complex (now (x .entry)) vx) (lent complex (now (y .entry)) vy) (lent complex (now (a .entry)) va)) r (now (a .exit)) ⌝ }
+{
+    let quick = quick_her2(vx, x.len() / 2, vy, y.len() / 2, va, a.len() / 2);
+    let answer = check_her2(quick, vx, x.len() / 2, vy, y.len() / 2, va, a.len() / 2);
+    if passed(answer) {
+        her2_rows(
+            uplo,
+            alpha,
+            x,
+            column(vx, va.rows),
+            y,
+            column(vy, va.rows),
+            a,
+            va,
+        );
+    }
+    answer
+}
+
+// C ← alpha A Bᵀ + alpha B Aᵀ + beta C or alpha Aᵀ B + alpha Bᵀ A + beta C, in the named triangle
+pub fn syr2k(
+    uplo: UpLo,
+    trans: Trans,
+    alpha: Complex,
+    a: &[f64],
+    va: View,
+    b: &[f64],
+    vb: View,
+    beta: Complex,
+    c: &mut [f64],
+    vc: View,
+) -> Answer
+    ensures { λ r. ⌜ Gives complex (Syr2k.syr2k complex uplo trans alpha (lent complex (now (a .entry)) va) (lent complex (now (b .entry)) vb) beta (lent complex (now (c .entry)) vc)) r (now (c .exit)) ⌝ }
+{
+    let quick = quick_syr2k(trans, va, a.len() / 2, vb, b.len() / 2, vc, c.len() / 2);
+    let answer = check_syr2k(
+        quick,
+        trans,
+        va,
+        a.len() / 2,
+        vb,
+        b.len() / 2,
+        vc,
+        c.len() / 2,
+    );
+    if passed(answer) {
+        let plan = syr2k_plan(uplo, trans, va, vb, vc);
+        syr2k_rows(alpha, BetaComplex::judge(beta), plan, a, b, c);
+    }
+    answer
+}
+
+// C ← alpha A Bᴴ + conj(alpha) B Aᴴ + beta C or alpha Aᴴ B + conj(alpha) Bᴴ A + beta C, in the named triangle, beta real
+pub fn her2k(
+    uplo: UpLo,
+    trans: Trans,
+    alpha: Complex,
+    a: &[f64],
+    va: View,
+    b: &[f64],
+    vb: View,
+    beta: f64,
+    c: &mut [f64],
+    vc: View,
+) -> Answer
+    ensures { λ r. ⌜ Gives complex (Her2k.her2k complex uplo trans alpha (lent complex (now (a .entry)) va) (lent complex (now (b .entry)) vb) beta (lent complex (now (c .entry)) vc)) r (now (c .exit)) ⌝ }
+{
+    let quick = quick_syr2k(trans, va, a.len() / 2, vb, b.len() / 2, vc, c.len() / 2);
+    let answer = check_her2k(
+        quick,
+        trans,
+        va,
+        a.len() / 2,
+        vb,
+        b.len() / 2,
+        vc,
+        c.len() / 2,
+    );
+    if passed(answer) {
+        let plan = her2k_plan(uplo, trans, va, vb, vc);
+        her2k_rows(alpha, BetaComplex::judge_real(beta), plan, a, b, c);
+    }
+    answer
+}

@@ -1,0 +1,42 @@
+use mathlib.Core.Path.{refl}
+use native.Mathlib.Omega.{arith}
+use Rattle.number.specs.Kind.{complex}
+use Rattle.slab.proofs.Shown.{shown, inside}
+use Rattle.order.proofs.Systems.{unknown-shown}
+use Rattle.order.proofs.Multiplies.{multiply-one-is}
+use borrow.Author.Needs.{needs}
+use Rattle.triangle_complex.proofs.multiply_next.Statement.{statement}
+use Rattle.triangle_complex.proofs.multiply_next.Tie as tie
+
+rows-requires : tie.Need-rows-requires
+rows-requires c κs = search needs
+
+in-order-requires : tie.Need-in-order-requires
+in-order-requires c κs = search needs
+
+vector-sum-requires : tie.Need-vector-sum-requires
+vector-sum-requires c κs = search needs
+
+place-requires : tie.Need-place-requires
+place-requires c κs = let p = c .before .before .before .before .before .before .before .before .pre in shown _ _ _ _ (unknown-shown _ _ _ (p .ready) _ _ (omega (arith, c .before .before .before .in-order .ensures .1, c .before .before .before .before .rows .ensures)) (p .line)) (omega arith)
+
+put-complex-requires : tie.Need-put-complex-requires
+put-complex-requires c κs = let p = c .before .before .before .before .before .before .before .before .before .pre in inside _ _ _ _ (unknown-shown _ _ _ (p .ready) _ _ (omega (arith, c .before .before .before .before .in-order .ensures .1, c .before .before .before .before .before .rows .ensures)) (p .line)) _ (c .place .ensures)
+
+same-length : tie.Need-same-length
+same-length c = search needs
+
+returns : tie.Need-returns
+returns c = multiply-one-is complex _ _ _ _ _ _ _ _ _ _ _ _ _ refl (c .before .before .before .before .before .before .before .before .rows .ensures) (c .before .before .before .before .before .before .before .in-order .ensures .0) (c .before .before .before .place .ensures) (c .before .before .before .before .before .vector-sum .ensures) refl (c .before .before .put-complex .ensures)
+
+pub multiply-next-spec : {M : Type 1} → statement M
+multiply-next-spec =
+    tie.close
+    (tie.spec
+    rows-requires
+    in-order-requires
+    vector-sum-requires
+    place-requires
+    put-complex-requires
+    same-length
+    returns)

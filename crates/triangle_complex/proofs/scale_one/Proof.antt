@@ -1,0 +1,35 @@
+use mathlib.Core.Path.{ap, _∙_}
+use denote.Ref.{now}
+use native.Mathlib.Omega.{arith}
+use Rattle.number.specs.Kind.{complex}
+use Rattle.slab.specs.Update.{step}
+use Rattle.slab.proofs.Shown.{shown, inside}
+use borrow.Author.Needs.{needs}
+use Rattle.triangle_complex.proofs.scale_one.Statement.{statement}
+use Rattle.triangle_complex.proofs.scale_one.Tie as tie
+
+elem-complex-requires : tie.Need-elem-complex-requires
+elem-complex-requires c κs = search needs
+
+place-requires : tie.Need-place-requires
+place-requires c κs = shown _ _ _ _ (c .before .before .before .before .pre) (omega arith)
+
+mul-requires : tie.Need-mul-requires
+mul-requires c κs = search needs
+
+put-complex-requires : tie.Need-put-complex-requires
+put-complex-requires c κs = inside _ _ _ _ (c .before .before .before .before .before .before .pre) _ (c .before .place .ensures)
+
+same-length : tie.Need-same-length
+same-length c = search needs
+
+returns : tie.Need-returns
+unfolding step
+returns c =
+    let p = c .before .before .before .before .before .before .before .before .before .args in
+    c .before .before .put-complex .ensures ∙ (λ i. complex .put (now (p .b)) (c .before .before .before .before .place .ensures i) ((c .before .before .before .mul .ensures ∙ ap (complex .mul (p .alpha)) (c .before .before .before .before .before .before .elem-complex .ensures)) i))
+
+pub scale-one-spec : {M : Type 1} → statement M
+scale-one-spec =
+    tie.close
+    (tie.spec elem-complex-requires place-requires mul-requires put-complex-requires same-length returns)

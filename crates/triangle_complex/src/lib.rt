@@ -1,0 +1,628 @@
+// The triangular products and solves of complex numbers.
+// Translated from control-rs; NOTICE names the source.
+
+ghost use mathlib.Core.Path.{_≡_};
+ghost use Prim.Native.Nat.{_≤_, _<_};
+ghost use Rattle.number.specs.Kind.{complex};
+ghost use Rattle.view.specs.Place.{index};
+ghost use Rattle.view.specs.Steps.{Accepted};
+ghost use Rattle.slab.specs.Elem.{elem, lent, Shows};
+ghost use Rattle.slab.specs.Run.{plain, more, Spans};
+ghost use Rattle.slab.specs.Update.{step, row, everywhere};
+ghost use Rattle.blas.specs.Outcome.{Gives};
+ghost use Rattle.blas.specs.Substitution.{less, inOrder};
+ghost use Rattle.blas.specs.Trsm.{timesAlpha, sidedSolve};
+ghost use Rattle.blas.specs.Trsm;
+ghost use Rattle.blas.specs.Trsv;
+ghost use Rattle.blas.specs.Trmm;
+ghost use Rattle.blas.specs.Trmv;
+ghost use Rattle.order.specs.Walk.{walk};
+ghost use Rattle.order.specs.Triangles as triangles;
+ghost use Rattle.order.specs.Triangles.{timesIf};
+ghost use Rattle.order.specs.Solve as solve;
+ghost use Rattle.order.specs.Multiply as multiply;
+ghost use Rattle.order.specs.Places.{PlacesAt, Begins};
+ghost use Rattle.order.specs.Ready.{Pivots, Ready, ReadyAt, Sided};
+use judge::check_trmm;
+use judge::check_trmv;
+use judge::check_trsm;
+use judge::check_trsv;
+use judge::quick_trmm;
+use judge::quick_trmv;
+use number::Complex;
+use order::Places;
+use order::System;
+use order::in_order;
+use order::is_left;
+use order::least_solved;
+use order::lines_solved;
+use order::onward;
+use order::places_of;
+use order::solved;
+use order::steps_of;
+use order::stops;
+use order::system_of;
+use slab::elem_complex;
+use slab::get_complex;
+use slab::put_complex;
+use std::num::wrapping_add_usize;
+use view::Answer;
+use view::Diag;
+use view::Side;
+use view::Trans;
+use view::UpLo;
+use view::View;
+use view::col_step;
+use view::cols;
+use view::column;
+use view::passed;
+use view::place;
+use view::row_step;
+use view::rows;
+
+// Element (i, j) of a view, at place k, conjugated or not.
+fn read(conjugated: bool, s: &[f64], v: View, i: usize, j: usize, k: usize) -> Complex
+    requires { ⌜ Shows v (complex .count (now s)) i j × (k ≡ index v i j) ⌝ }
+    ensures { λ r. ⌜ r ≡ plain complex conjugated (now (s .entry)) v i j ⌝ }
+{
+    let x = get_complex(s, k);
+    if conjugated { x.conj() } else { x }
+}
+
+// Element (i, j) of a view, conjugated or not.
+fn at(conjugated: bool, s: &[f64], v: View, i: usize, j: usize) -> Complex
+    requires { ⌜ Shows v (complex .count (now s)) i j ⌝ }
+    ensures { λ r. ⌜ r ≡ plain complex conjugated (now (s .entry)) v i j ⌝ }
+{
+    let x = elem_complex(s, v, i, j);
+    if conjugated { x.conj() } else { x }
+}
+
+// x less n terms of row q by column l, from `from` on.
+fn reduce(
+    conjugated: bool,
+    a: &[f64],
+    va: View,
+    b: &[f64],
+    vb: View,
+    q: usize,
+    l: usize,
+    from: usize,
+    n: usize,
+    x: Complex,
+) -> Complex
+    requires { ⌜ Spans va (complex .count (now a)) vb (complex .count (now b)) q l from n ⌝ }
+    ensures { λ r. ⌜ r ≡ less complex x (λ p. complex .mul (plain complex conjugated (now (a .entry)) va q p) (elem complex (now (b .entry)) vb p l)) from n ⌝ }
+{
+    let mut rest = x;
+    let mut i = 0;
+    while i < n {
+        let p = from + i;
+        rest = rest.sub(at(conjugated, a, va, q, p).mul(elem_complex(b, vb, p, l)));
+        i += 1;
+    }
+    rest
+}
+
+// x and n such terms more.
+fn add_run(
+    conjugated: bool,
+    a: &[f64],
+    va: View,
+    b: &[f64],
+    vb: View,
+    q: usize,
+    l: usize,
+    from: usize,
+    n: usize,
+    x: Complex,
+) -> Complex
+    requires { ⌜ Spans va (complex .count (now a)) vb (complex .count (now b)) q l from n ⌝ }
+    ensures { λ r. ⌜ r ≡ more complex x (λ p. complex .mul (plain complex conjugated (now (a .entry)) va q p) (elem complex (now (b .entry)) vb p l)) from n ⌝ }
+{
+    let mut sum = x;
+    let mut i = 0;
+    while i < n {
+        let p = from + i;
+        sum = sum.add(at(conjugated, a, va, q, p).mul(elem_complex(b, vb, p, l)));
+        i += 1;
+    }
+    sum
+}
+
+// x divided by pivot q, which is at place `pivot`.
+fn by_pivot(
+    diag: Diag,
+    conjugated: bool,
+    a: &[f64],
+    va: View,
+    q: usize,
+    pivot: usize,
+    x: Complex,
+) -> Complex
+    requires { ⌜ Shows va (complex .count (now a)) q q × (pivot ≡ index va q q) ⌝ }
+    ensures { λ r. ⌜ r ≡ solve.byDiag complex diag (plain complex conjugated (now (a .entry)) va q q) x ⌝ }
+{
+    match diag {
+        Diag::NonUnit => x.div(read(conjugated, a, va, q, q, pivot)),
+        Diag::Unit => x,
+    }
+}
+
+// Whether pivot q, which is at place `pivot`, is zero.
+fn zero_pivot(diag: Diag, a: &[f64], va: View, q: usize, pivot: usize) -> bool
+    requires { ⌜ Shows va (complex .count (now a)) q q × (pivot ≡ index va q q) ⌝ }
+    ensures { λ r. ⌜ r ≡ solve.zeroDiag complex diag (elem complex (now (a .entry)) va q q) ⌝ }
+{
+    match diag {
+        Diag::NonUnit => get_complex(a, pivot).is_zero(),
+        Diag::Unit => false,
+    }
+}
+
+// x times alpha, or as it is.
+fn times_if(times: bool, alpha: Complex, x: Complex) -> Complex
+    ensures { λ r. ⌜ r ≡ timesIf complex times alpha x ⌝ }
+{
+    if times { alpha.mul(x) } else { x }
+}
+
+// The unknown of line l that comes after k others, solved.
+fn solve_one(sys: System, times: bool, alpha: Complex, a: &[f64], b: &mut [f64], k: usize, l: usize)
+    requires { ⌜ ReadyAt sys (complex .count (now a)) (complex .count (now b)) k l ⌝ }
+    ensures { λ _. ⌜ now (b .exit) ≡ solve.solveOne complex sys (timesIf complex times alpha) (now (a .entry)) k l (now (b .entry)) ⌝ }
+{
+    let diag = sys.diag;
+    let m = rows(sys.b);
+    let q = in_order(sys.last, m, k);
+    let from = least_solved(sys.last, m, k);
+    let x = times_if(times, alpha, elem_complex(b, sys.b, q, l));
+    let rest = reduce(sys.conjugated, a, sys.a, b, sys.b, q, l, from, k, x);
+    let y = by_pivot(diag, sys.conjugated, a, sys.a, q, place(sys.a, q, q), rest);
+    put_complex(b, place(sys.b, q, l), y);
+}
+
+// x less the term of row q of a and a vector at p, whose factors are at places c and u.
+fn less_at(
+    conjugated: bool,
+    a: &[f64],
+    va: View,
+    b: &[f64],
+    vb: View,
+    q: usize,
+    p: usize,
+    c: usize,
+    u: usize,
+    x: Complex,
+) -> Complex
+    requires { ⌜ Shows va (complex .count (now a)) q p × Shows vb (complex .count (now b)) p 0 × (c ≡ index va q p) × (u ≡ index vb p 0) ⌝ }
+    ensures { λ r. ⌜ r ≡ complex .sub x (complex .mul (plain complex conjugated (now (a .entry)) va q p) (elem complex (now (b .entry)) vb p 0)) ⌝ }
+{
+    x.sub(read(conjugated, a, va, q, p, c).mul(get_complex(b, u)))
+}
+
+// x less n such terms of a vector, the first from places `first` and `solved` on.
+fn reduce_along(
+    conjugated: bool,
+    a: &[f64],
+    va: View,
+    b: &[f64],
+    vb: View,
+    q: usize,
+    from: usize,
+    n: usize,
+    x: Complex,
+    first: usize,
+    solved: usize,
+) -> Complex
+    requires { ⌜ Spans va (complex .count (now a)) vb (complex .count (now b)) q 0 from n × Begins va vb q from n first solved ⌝ }
+    ensures { λ r. ⌜ r ≡ less complex x (λ p. complex .mul (plain complex conjugated (now (a .entry)) va q p) (elem complex (now (b .entry)) vb p 0)) from n ⌝ }
+{
+    let along = col_step(va);
+    let down = row_step(vb);
+    let mut rest = x;
+    let mut c = first;
+    let mut u = solved;
+    let mut i = 0;
+    while i < n {
+        rest = less_at(conjugated, a, va, b, vb, q, from + i, c, u, rest);
+        c = wrapping_add_usize(c, along);
+        u = wrapping_add_usize(u, down);
+        i += 1;
+    }
+    rest
+}
+
+// The unknown of a vector that comes after k others, at these places, solved.
+fn solve_next(sys: System, a: &[f64], b: &mut [f64], k: usize, at: Places)
+    requires { ⌜ ReadyAt sys (complex .count (now a)) (complex .count (now b)) k 0 × PlacesAt (sys .last) sys k at ⌝ }
+    ensures { λ _. ⌜ now (b .exit) ≡ solve.solveOne complex sys (λ x. x) (now (a .entry)) k 0 (now (b .entry)) ⌝ }
+{
+    let diag = sys.diag;
+    let m = rows(sys.b);
+    let q = in_order(sys.last, m, k);
+    let from = least_solved(sys.last, m, k);
+    let own = at.own;
+    let x = get_complex(b, own);
+    let rest = reduce_along(
+        sys.conjugated,
+        a,
+        sys.a,
+        b,
+        sys.b,
+        q,
+        from,
+        k,
+        x,
+        at.first,
+        at.solved,
+    );
+    let y = by_pivot(diag, sys.conjugated, a, sys.a, q, at.pivot, rest);
+    put_complex(b, own, y);
+}
+
+// Whether the pivot of the unknown that comes after k others, which is at place `pivot`, is zero.
+fn meets_zero(sys: System, a: &[f64], k: usize, pivot: usize) -> bool
+    requires { ⌜ Pivots sys (complex .count (now a)) × (k < sys .b .rows) × (pivot ≡ index (sys .a) (inOrder (sys .last) (sys .b .rows) k) (inOrder (sys .last) (sys .b .rows) k)) ⌝ }
+    ensures { λ r. ⌜ r ≡ solve.zeroAfter complex sys (now (a .entry)) k ⌝ }
+{
+    let diag = sys.diag;
+    let q = in_order(sys.last, rows(sys.b), k);
+    zero_pivot(diag, a, sys.a, q, pivot)
+}
+
+// The unknowns of a vector, up to the first zero pivot.
+fn solve_vector(sys: System, a: &[f64], b: &mut [f64]) -> Answer
+    requires { ⌜ Ready sys (complex .count (now a)) (complex .count (now b)) × (sys .b .cols ≡ 1) ⌝ }
+    ensures { λ r. ⌜ solve.Solved complex sys (λ x. x) (now (a .entry)) (now (b .entry)) r (now (b .exit)) ⌝ }
+{
+    let n = rows(sys.b);
+    if n == 0 {
+        return Answer::Done;
+    }
+    let by = steps_of(sys);
+    let mut at = places_of(sys);
+    let mut k = 0;
+    while k < n {
+        if meets_zero(sys, a, k, at.pivot) {
+            return Answer::Singular;
+        }
+        solve_next(sys, a, b, k, at);
+        at = onward(at, by);
+        k += 1;
+    }
+    Answer::Done
+}
+
+// How many unknowns come before the first zero pivot.
+fn first_zero(sys: System, a: &[f64]) -> usize
+    requires { ⌜ Pivots sys (complex .count (now a)) ⌝ }
+    ensures { λ r. ⌜ r ≡ solve.firstZero complex sys (now (a .entry)) ⌝ }
+{
+    let m = rows(sys.b);
+    let mut k = 0;
+    while k < m {
+        let q = in_order(sys.last, m, k);
+        if meets_zero(sys, a, k, place(sys.a, q, q)) {
+            return k;
+        }
+        k += 1;
+    }
+    k
+}
+
+// The unknown that comes after k others, in the first n lines.
+fn solve_across(
+    sys: System,
+    times: bool,
+    alpha: Complex,
+    a: &[f64],
+    b: &mut [f64],
+    n: usize,
+    k: usize,
+)
+    requires { ⌜ Ready sys (complex .count (now a)) (complex .count (now b)) × ((n ≤ sys .b .cols) × (k < sys .b .rows)) ⌝ }
+    ensures { λ _. ⌜ now (b .exit) ≡ solve.solveAcross complex sys (timesIf complex times alpha) (now (a .entry)) n k (now (b .entry)) ⌝ }
+{
+    let mut l = 0;
+    while l < n {
+        solve_one(sys, times, alpha, a, b, k, l);
+        l += 1;
+    }
+}
+
+// The first m unknowns, one after another, each in the first n lines.
+fn solve_unknowns(
+    sys: System,
+    times: bool,
+    alpha: Complex,
+    a: &[f64],
+    b: &mut [f64],
+    n: usize,
+    m: usize,
+)
+    requires { ⌜ Ready sys (complex .count (now a)) (complex .count (now b)) × ((n ≤ sys .b .cols) × (m ≤ sys .b .rows)) ⌝ }
+    ensures { λ _. ⌜ now (b .exit) ≡ solve.solveUnknowns complex sys (timesIf complex times alpha) (now (a .entry)) n m (now (b .entry)) ⌝ }
+{
+    let mut k = 0;
+    while k < m {
+        solve_across(sys, times, alpha, a, b, n, k);
+        k += 1;
+    }
+}
+
+// The unknowns before the first zero pivot, in every line; where a left solve stops there, in the first line alone.
+fn solve_lines(sys: System, times: bool, alpha: Complex, a: &[f64], b: &mut [f64]) -> Answer
+    requires { ⌜ Ready sys (complex .count (now a)) (complex .count (now b)) ⌝ }
+    ensures { λ r. ⌜ solve.Solved complex sys (timesIf complex times alpha) (now (a .entry)) (now (b .entry)) r (now (b .exit)) ⌝ }
+{
+    let side = sys.side;
+    let m = first_zero(sys, a);
+    let stopped = stops(sys, m);
+    let n = lines_solved(side, stopped, cols(sys.b));
+    solve_unknowns(sys, times, alpha, a, b, n, m);
+    solved(stopped)
+}
+
+// Element (i, j) of B times alpha.
+fn scale_one(alpha: Complex, b: &mut [f64], vb: View, i: usize, j: usize)
+    requires { ⌜ Shows vb (complex .count (now b)) i j ⌝ }
+    ensures { λ _. ⌜ now (b .exit) ≡ step complex vb everywhere (λ i j x. complex .mul alpha x) i j (now (b .entry)) ⌝ }
+{
+    let x = elem_complex(b, vb, i, j);
+    put_complex(b, place(vb, i, j), alpha.mul(x));
+}
+
+// Row i of B times alpha.
+fn scale_row(alpha: Complex, b: &mut [f64], vb: View, i: usize)
+    requires { ⌜ Accepted vb (complex .count (now b)) × (i < vb .rows) ⌝ }
+    ensures { λ _. ⌜ now (b .exit) ≡ row complex vb everywhere (λ i j x. complex .mul alpha x) i (vb .cols) (now (b .entry)) ⌝ }
+{
+    let n = cols(vb);
+    let mut j = 0;
+    while j < n {
+        scale_one(alpha, b, vb, i, j);
+        j += 1;
+    }
+}
+
+// All of B times alpha.
+fn scale(alpha: Complex, b: &mut [f64], vb: View)
+    requires { ⌜ Accepted vb (complex .count (now b)) ⌝ }
+    ensures { λ _. ⌜ now (b .exit) ≡ timesAlpha complex alpha vb (now (b .entry)) ⌝ }
+{
+    let m = rows(vb);
+    let mut i = 0;
+    while i < m {
+        scale_row(alpha, b, vb, i);
+        i += 1;
+    }
+}
+
+// All of B times alpha on the right side, which multiplies before it solves; the left side multiplies where it solves.
+fn scale_right(side: Side, alpha: Complex, b: &mut [f64], vb: View)
+    requires { ⌜ Accepted vb (complex .count (now b)) ⌝ }
+    ensures { λ _. ⌜ now (b .exit) ≡ triangles.scaledRight complex side alpha vb (now (b .entry)) ⌝ }
+{
+    match side {
+        Side::Left => {}
+        Side::Right => scale(alpha, b, vb),
+    }
+}
+
+// The solve of a side, with alpha.
+fn sided(
+    side: Side,
+    uplo: UpLo,
+    t: Trans,
+    diag: Diag,
+    alpha: Complex,
+    a: &[f64],
+    va: View,
+    b: &mut [f64],
+    vb: View,
+) -> Answer
+    requires { ⌜ Sided side va (complex .count (now a)) vb (complex .count (now b)) ⌝ }
+    ensures { λ r. ⌜ Gives complex (sidedSolve complex side uplo t diag alpha (elem complex (now (a .entry)) va) vb (now (b .entry))) r (now (b .exit)) ⌝ }
+{
+    scale_right(side, alpha, b, vb);
+    let sys = system_of(side, uplo, t, diag, va, vb);
+    solve_lines(sys, is_left(side), alpha, a, b)
+}
+
+// What the diagonal weighs.
+fn own_weight(diag: Diag, conjugated: bool, a: &[f64], va: View, q: usize) -> Complex
+    requires { ⌜ Shows va (complex .count (now a)) q q ⌝ }
+    ensures { λ r. ⌜ r ≡ multiply.ownDiag complex diag (plain complex conjugated (now (a .entry)) va q q) ⌝ }
+{
+    match diag {
+        Diag::NonUnit => at(conjugated, a, va, q, q),
+        Diag::Unit => Complex::ONE,
+    }
+}
+
+// Element q of line l of the product.
+fn line_sum(sys: System, a: &[f64], b: &[f64], q: usize, l: usize) -> Complex
+    requires { ⌜ ReadyAt sys (complex .count (now a)) (complex .count (now b)) q l ⌝ }
+    ensures { λ r. ⌜ r ≡ multiply.lineSum complex sys (now (a .entry)) (now (b .entry)) q l ⌝ }
+{
+    let diag = sys.diag;
+    let c = own_weight(diag, sys.conjugated, a, sys.a, q);
+    let own = c.mul(elem_complex(b, sys.b, q, l));
+    if sys.last {
+        let n = rows(sys.b) - 1 - q;
+        let x = Complex::ZERO.add(own);
+        add_run(sys.conjugated, a, sys.a, b, sys.b, q, l, q + 1, n, x)
+    } else {
+        let x = Complex::ZERO;
+        let sum = add_run(sys.conjugated, a, sys.a, b, sys.b, q, l, 0, q, x);
+        sum.add(own)
+    }
+}
+
+// The element of line l that comes after k others, multiplied.
+fn multiply_one(sys: System, alpha: Complex, a: &[f64], b: &mut [f64], k: usize, l: usize)
+    requires { ⌜ ReadyAt sys (complex .count (now a)) (complex .count (now b)) k l ⌝ }
+    ensures { λ _. ⌜ now (b .exit) ≡ multiply.multiplyOne complex sys (now (a .entry)) (complex .mul alpha) k l (now (b .entry)) ⌝ }
+{
+    let q = in_order(!sys.last, rows(sys.b), k);
+    let x = alpha.mul(line_sum(sys, a, b, q, l));
+    put_complex(b, place(sys.b, q, l), x);
+}
+
+// Line l of B, in the order that reads no written element.
+fn multiply_line(sys: System, alpha: Complex, a: &[f64], b: &mut [f64], l: usize)
+    requires { ⌜ Ready sys (complex .count (now a)) (complex .count (now b)) × (l < sys .b .cols) ⌝ }
+    ensures { λ _. ⌜ now (b .exit) ≡ multiply.multiplyLine complex sys (now (a .entry)) (complex .mul alpha) l (sys .b .rows) (now (b .entry)) ⌝ }
+{
+    let m = rows(sys.b);
+    let mut k = 0;
+    while k < m {
+        multiply_one(sys, alpha, a, b, k, l);
+        k += 1;
+    }
+}
+
+// All of B, line after line.
+fn multiply(sys: System, alpha: Complex, a: &[f64], b: &mut [f64])
+    requires { ⌜ Ready sys (complex .count (now a)) (complex .count (now b)) ⌝ }
+    ensures { λ _. ⌜ now (b .exit) ≡ multiply.multiplyAll complex sys (now (a .entry)) (complex .mul alpha) (now (b .entry)) ⌝ }
+{
+    let n = cols(sys.b);
+    let mut l = 0;
+    while l < n {
+        multiply_line(sys, alpha, a, b, l);
+        l += 1;
+    }
+}
+
+// Element q of the product with a vector.
+fn vector_sum(sys: System, a: &[f64], b: &[f64], q: usize) -> Complex
+    requires { ⌜ ReadyAt sys (complex .count (now a)) (complex .count (now b)) q 0 ⌝ }
+    ensures { λ r. ⌜ r ≡ multiply.lineSum complex sys (now (a .entry)) (now (b .entry)) q 0 ⌝ }
+{
+    let diag = sys.diag;
+    let c = own_weight(diag, sys.conjugated, a, sys.a, q);
+    let own = c.mul(elem_complex(b, sys.b, q, 0));
+    if sys.last {
+        let n = rows(sys.b) - 1 - q;
+        let x = Complex::ZERO.add(own);
+        add_run(sys.conjugated, a, sys.a, b, sys.b, q, 0, q + 1, n, x)
+    } else {
+        let x = Complex::ZERO;
+        let sum = add_run(sys.conjugated, a, sys.a, b, sys.b, q, 0, 0, q, x);
+        sum.add(own)
+    }
+}
+
+// The element of a vector that comes after k others, multiplied.
+fn multiply_next(sys: System, a: &[f64], b: &mut [f64], k: usize)
+    requires { ⌜ ReadyAt sys (complex .count (now a)) (complex .count (now b)) k 0 ⌝ }
+    ensures { λ _. ⌜ now (b .exit) ≡ multiply.multiplyOne complex sys (now (a .entry)) (λ x. x) k 0 (now (b .entry)) ⌝ }
+{
+    let q = in_order(!sys.last, rows(sys.b), k);
+    let x = vector_sum(sys, a, b, q);
+    put_complex(b, place(sys.b, q, 0), x);
+}
+
+// All of a vector, in that order.
+fn multiply_vector(sys: System, a: &[f64], b: &mut [f64])
+    requires { ⌜ Ready sys (complex .count (now a)) (complex .count (now b)) × (sys .b .cols ≡ 1) ⌝ }
+    ensures { λ _. ⌜ now (b .exit) ≡ walk (sys .b .rows) (λ k. multiply.multiplyOne complex sys (now (a .entry)) (λ x. x) k 0) (now (b .entry)) ⌝ }
+{
+    let m = rows(sys.b);
+    let mut k = 0;
+    while k < m {
+        multiply_next(sys, a, b, k);
+        k += 1;
+    }
+}
+
+// x ← op(A) x, A triangular
+pub fn trmv(
+    uplo: UpLo,
+    trans: Trans,
+    diag: Diag,
+    a: &[f64],
+    va: View,
+    x: &mut [f64],
+    vx: View,
+) -> Answer
+    ensures { λ r. ⌜ Gives complex (Trmv.trmv complex uplo trans diag (lent complex (now (a .entry)) va) (lent complex (now (x .entry)) vx)) r (now (x .exit)) ⌝ }
+{
+    let quick = quick_trmv(va, a.len() / 2, vx, x.len() / 2);
+    let answer = check_trmv(quick, va, a.len() / 2, vx, x.len() / 2);
+    if passed(answer) {
+        let v = column(vx, va.rows);
+        let sys = system_of(Side::Left, uplo, trans, diag, va, v);
+        multiply_vector(sys, a, x);
+    }
+    answer
+}
+
+// B ← alpha op(A) B or alpha B op(A), A triangular
+pub fn trmm(
+    side: Side,
+    uplo: UpLo,
+    trans: Trans,
+    diag: Diag,
+    alpha: Complex,
+    a: &[f64],
+    va: View,
+    b: &mut [f64],
+    vb: View,
+) -> Answer
+    ensures { λ r. ⌜ Gives complex (Trmm.trmm complex side uplo trans diag alpha (lent complex (now (a .entry)) va) (lent complex (now (b .entry)) vb)) r (now (b .exit)) ⌝ }
+{
+    let quick = quick_trmm(side, va, a.len() / 2, vb, b.len() / 2);
+    let answer = check_trmm(quick, side, va, a.len() / 2, vb, b.len() / 2);
+    if passed(answer) {
+        let sys = system_of(side, uplo, trans, diag, va, vb);
+        multiply(sys, alpha, a, b);
+    }
+    answer
+}
+
+// op(A) x = b solved, x holding b, A triangular
+pub fn trsv(
+    uplo: UpLo,
+    trans: Trans,
+    diag: Diag,
+    a: &[f64],
+    va: View,
+    x: &mut [f64],
+    vx: View,
+) -> Answer
+    ensures { λ r. ⌜ Gives complex (Trsv.trsv complex uplo trans diag (lent complex (now (a .entry)) va) (lent complex (now (x .entry)) vx)) r (now (x .exit)) ⌝ }
+{
+    let quick = quick_trmv(va, a.len() / 2, vx, x.len() / 2);
+    let answer = check_trsv(quick, va, a.len() / 2, vx, x.len() / 2);
+    if passed(answer) {
+        let v = column(vx, va.rows);
+        let sys = system_of(Side::Left, uplo, trans, diag, va, v);
+        return solve_vector(sys, a, x);
+    }
+    answer
+}
+
+// op(A) X = alpha B or X op(A) = alpha B solved in B's place, A triangular
+pub fn trsm(
+    side: Side,
+    uplo: UpLo,
+    trans: Trans,
+    diag: Diag,
+    alpha: Complex,
+    a: &[f64],
+    va: View,
+    b: &mut [f64],
+    vb: View,
+) -> Answer
+    ensures { λ r. ⌜ Gives complex (Trsm.trsm complex side uplo trans diag alpha (lent complex (now (a .entry)) va) (lent complex (now (b .entry)) vb)) r (now (b .exit)) ⌝ }
+{
+    let quick = quick_trmm(side, va, a.len() / 2, vb, b.len() / 2);
+    let answer = check_trsm(quick, side, va, a.len() / 2, vb, b.len() / 2);
+    if passed(answer) {
+        return sided(side, uplo, trans, diag, alpha, a, va, b, vb);
+    }
+    answer
+}

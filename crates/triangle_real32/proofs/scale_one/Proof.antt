@@ -1,0 +1,35 @@
+use mathlib.Core.Path.{ap, _∙_}
+use denote.Ref.{now}
+use native.Mathlib.Omega.{arith}
+use Rattle.number.specs.Kind.{real32}
+use Rattle.slab.specs.Update.{step}
+use Rattle.slab.proofs.Shown.{shown, inside}
+use borrow.Author.Needs.{needs}
+use Rattle.triangle_real32.proofs.scale_one.Statement.{statement}
+use Rattle.triangle_real32.proofs.scale_one.Tie as tie
+
+elem32-requires : tie.Need-elem32-requires
+elem32-requires c κs = search needs
+
+place-requires : tie.Need-place-requires
+place-requires c κs = shown _ _ _ _ (c .before .before .before .before .pre) (omega arith)
+
+mul-requires : tie.Need-mul-requires
+mul-requires c κs = search needs
+
+put32-requires : tie.Need-put32-requires
+put32-requires c κs = inside _ _ _ _ (c .before .before .before .before .before .before .pre) _ (c .before .place .ensures)
+
+same-length : tie.Need-same-length
+same-length c = search needs
+
+returns : tie.Need-returns
+unfolding step
+returns c =
+    let p = c .before .before .before .before .before .before .before .before .before .args in
+    c .before .before .put32 .ensures ∙ (λ i. real32 .put (now (p .b)) (c .before .before .before .before .place .ensures i) ((c .before .before .before .mul .ensures ∙ ap (real32 .mul (p .alpha .0)) (c .before .before .before .before .before .before .elem32 .ensures)) i))
+
+pub scale-one-spec : {M : Type 1} → statement M
+scale-one-spec =
+    tie.close
+    (tie.spec elem32-requires place-requires mul-requires put32-requires same-length returns)

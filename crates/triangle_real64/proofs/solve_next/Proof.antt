@@ -1,0 +1,70 @@
+use Prim.Native.Nat.{ℕ, _<_, _≤_, _^_}
+use mathlib.Core.Path.{refl, ap, sym, subst, _∙_}
+use denote.Ref.{now}
+use native.Mathlib.Omega.{arith}
+use Rattle.number.specs.Kind.{real64}
+use Rattle.slab.proofs.Shown.{inside}
+use Rattle.order.proofs.Systems.{pivot-shown, unknown-shown, run-spans}
+use Rattle.order.proofs.PlaceLaws.{pivot-at, own-at, begins-at, ends-at}
+use Rattle.order.proofs.Solves.{solve-one-is}
+use borrow.Author.Needs.{needs}
+use Rattle.triangle_real64.proofs.solve_next.Statement.{statement}
+use Rattle.triangle_real64.proofs.solve_next.Tie as tie
+
+rows-requires : tie.Need-rows-requires
+rows-requires c κs = search needs
+
+in-order-requires : tie.Need-in-order-requires
+in-order-requires c κs = subst (λ (m : ℕ). c .before .before .before .args .k < m) (sym (c .rows .ensures)) (c .before .before .before .pre .0 .unknown)
+
+least-solved-requires : tie.Need-least-solved-requires
+least-solved-requires c κs = subst (λ (m : ℕ). c .before .before .before .before .args .k < m) (sym (c .before .rows .ensures)) (c .before .before .before .before .pre .0 .unknown)
+
+get64-requires : tie.Need-get64-requires
+get64-requires c κs =
+    let g = c .before .before .before .before .before .before in
+    inside _ _ _ _ (unknown-shown _ _ _ (g .pre .0 .ready) _ _ (omega (arith, c .before .before .in-order .ensures .1, c .before .before .before .rows .ensures)) (g .pre .0 .line)) _ (own-at (g .args .sys) _ _ _ _ (g .pre .1) (c .before .before .before .rows .ensures) (c .before .before .in-order .ensures .0))
+
+reduce-along-requires : tie.Need-reduce-along-requires
+reduce-along-requires c κs =
+    let g = c .before .before .before .before .before .before .before .before in
+    let small-a : real64 .count (now (g .args .a)) ≤ 2 ^ 63 = omega (arith, g .good .1 .0) in
+    let small-b : real64 .count (now (g .args .b)) ≤ 2 ^ 63 = omega (arith, g .good .1 .1 .0) in (
+      run-spans _ _ _ (g .pre .0 .ready) _ _ _ _ (omega (arith, c .before .before .before .before .in-order .ensures .1, c .before .before .before .before .before .rows .ensures)) (g .pre .0 .line) (omega (arith, c .before .before .before .least-solved .ensures .1, c .before .before .before .before .before .rows .ensures)),
+      begins-at (g .args .sys) _ _ _ _ (g .pre .1) (c .before .before .before .before .before .rows .ensures) (c .before .before .before .before .in-order .ensures .0) _ _ (g .pre .0 .ready) (g .pre .0 .line) small-a small-b (g .pre .0 .unknown) _ (c .before .before .before .least-solved .ensures .0),
+      ends-at (g .args .sys) _ _ _ _ (g .pre .1) (c .before .before .before .before .before .rows .ensures) (c .before .before .before .before .in-order .ensures .0) _ _ (g .pre .0 .ready) (g .pre .0 .line) small-a small-b (g .pre .0 .unknown) _ (c .before .before .before .least-solved .ensures .0) (g .pre .2),
+    )
+
+by-pivot-requires : tie.Need-by-pivot-requires
+by-pivot-requires c κs =
+    let g = c .before .before .before .before .before .before .before .before .before in
+    (pivot-shown _ _ 0 _ (g .pre .0 .ready .pivots) (omega (arith, c .before .before .before .before .before .in-order .ensures .1, c .before .before .before .before .before .before .rows .ensures)), pivot-at (g .args .sys) _ _ _ _ (g .pre .1) (c .before .before .before .before .before .before .rows .ensures) (c .before .before .before .before .before .in-order .ensures .0))
+
+put64-requires : tie.Need-put64-requires
+put64-requires c κs =
+    let g = c .before .before .before .before .before .before .before .before .before .before .before in
+    inside _ _ _ _ (unknown-shown _ _ _ (g .pre .0 .ready) _ _ (omega (arith, c .before .before .before .before .before .before .before .in-order .ensures .1, c .before .before .before .before .before .before .before .before .rows .ensures)) (g .pre .0 .line)) _ (own-at (g .args .sys) _ _ _ _ (g .pre .1) (c .before .before .before .before .before .before .before .before .rows .ensures) (c .before .before .before .before .before .before .before .in-order .ensures .0))
+
+same-length : tie.Need-same-length
+same-length c = search needs
+
+returns : tie.Need-returns
+returns c =
+    let g = c .before .before .before .before .before .before .before .before .before .before .before .before .before .before in
+    let p = g .args in
+    let own = own-at (p .sys) _ _ _ _ (g .pre .1) (c .before .before .before .before .before .before .before .before .before .before .before .rows .ensures) (c .before .before .before .before .before .before .before .before .before .before .in-order .ensures .0) in
+    solve-one-is real64 (p .sys) (now (p .a)) (λ x. x) _ _ _ _ _ _ _ _ _ _ _ _ (c .before .before .before .before .before .before .before .before .before .before .before .rows .ensures) (c .before .before .before .before .before .before .before .before .before .before .in-order .ensures .0) (c .before .before .before .before .before .before .before .before .before .least-solved .ensures .0) (c .before .before .before .before .before .before .before .get64 .ensures ∙ ap (real64 .at (now (p .b))) own) refl (c .before .before .before .before .before .reduce-along .ensures) (c .before .before .before .before .by-pivot .ensures) own (c .before .before .put64 .ensures)
+
+pub solve-next-spec : {M : Type 1} → statement M
+solve-next-spec =
+    tie.close
+    (tie.spec
+    rows-requires
+    in-order-requires
+    least-solved-requires
+    get64-requires
+    reduce-along-requires
+    by-pivot-requires
+    put64-requires
+    same-length
+    returns)
