@@ -98,6 +98,13 @@ module _ (K : Kind) (y : System) (a : List (K .Cell)) where
           K .put s (index (y .b) u l)
           (byDiag K (y .diag) (coefficient K y a u u) (less K (start (elem K s (y .b) u l)) (λ p. K .mul (coefficient K y a u p) (elem K s (y .b) p l)) f k))
 
+  -- the unknown that is solved first has no sum
+  pub first-one-is : (start : K .Elem → K .Elem) (l m q n : ℕ) (w x z : K .Elem) (s s' : List (K .Cell)) → m ≡ y .b .rows → q ≡ inOrder (y .last) m 0 → w ≡ elem K s (y .b) q l → x ≡ start w
+      → z ≡ byDiag K (y .diag) (coefficient K y a q q) x → n ≡ index (y .b) q l → s' ≡ K .put s n z → s' ≡ solveOne K y start a 0 l s
+  unfolding less
+  first-one-is start l m q n w x z s s' counted here taken started divided placed e =
+      solve-one-is start 0 l m q (leastSolved (y .last) m 0) n w x x z s s' counted here refl taken started refl divided placed e
+
   pub meets-is : (k m q : ℕ) (b : Bool) → m ≡ y .b .rows → q ≡ inOrder (y .last) m k → b ≡ zeroDiag K (y .diag) (elem K a (y .a) q q) → b ≡ zeroAfter K y a k
   unfolding zeroAfter
   meets-is k m q b counted here told =

@@ -416,6 +416,31 @@ fn reached(sys: System, a: &[f32]) -> usize
     }
 }
 
+// The unknown of line l that is solved first, with A on the left: it has no sum.
+fn left_first(sys: System, alpha: Real32, a: &[f32], b: &mut [f32], l: usize)
+    requires { ⌜ ReadyAt sys (real32 .count (now a)) (real32 .count (now b)) 0 l ⌝ }
+    ensures { λ _. ⌜ now (b .exit) ≡ solve.solveOne real32 sys (real32 .mul (alpha .0)) (now (a .entry)) 0 l (now (b .entry)) ⌝ }
+{
+    let diag = sys.diag;
+    let m = rows(sys.b);
+    let q = in_order(sys.last, m, 0);
+    let x = alpha.mul(elem32(b, sys.b, q, l)).0;
+    let y = by_pivot(diag, sys.conjugated, a, sys.a, q, place(sys.a, q, q), x);
+    put32(b, place(sys.b, q, l), Real32(y));
+}
+
+// That unknown in the first n lines.
+fn left_begin(sys: System, alpha: Real32, a: &[f32], b: &mut [f32], n: usize)
+    requires { ⌜ Ready sys (real32 .count (now a)) (real32 .count (now b)) × ((n ≤ sys .b .cols) × (0 < sys .b .rows)) ⌝ }
+    ensures { λ _. ⌜ now (b .exit) ≡ solve.solveAcross real32 sys (real32 .mul (alpha .0)) (now (a .entry)) n 0 (now (b .entry)) ⌝ }
+{
+    let mut l = 0;
+    while l < n {
+        left_first(sys, alpha, a, b, l);
+        l += 1;
+    }
+}
+
 // The unknown that comes after k others, in the first n lines, with A on the left.
 fn left_across(sys: System, alpha: Real32, a: &[f32], b: &mut [f32], n: usize, k: usize)
     requires { ⌜ Ready sys (real32 .count (now a)) (real32 .count (now b)) × ((n ≤ sys .b .cols) × (k < sys .b .rows)) ⌝ }
@@ -433,7 +458,11 @@ fn left_unknowns(sys: System, alpha: Real32, a: &[f32], b: &mut [f32], n: usize,
     requires { ⌜ Ready sys (real32 .count (now a)) (real32 .count (now b)) × ((n ≤ sys .b .cols) × (m ≤ sys .b .rows)) ⌝ }
     ensures { λ _. ⌜ now (b .exit) ≡ solve.solveUnknowns real32 sys (real32 .mul (alpha .0)) (now (a .entry)) n m (now (b .entry)) ⌝ }
 {
-    let mut k = 0;
+    if m == 0 {
+        return;
+    }
+    left_begin(sys, alpha, a, b, n);
+    let mut k = 1;
     while k < m {
         left_across(sys, alpha, a, b, n, k);
         k += 1;
@@ -453,6 +482,31 @@ fn left_lines(sys: System, alpha: Real32, a: &[f32], b: &mut [f32]) -> Answer
     solved(stopped)
 }
 
+// The unknown of line l that is solved first, with A on the right: it has no sum.
+fn right_first(sys: System, a: &[f32], b: &mut [f32], l: usize)
+    requires { ⌜ ReadyAt sys (real32 .count (now a)) (real32 .count (now b)) 0 l ⌝ }
+    ensures { λ _. ⌜ now (b .exit) ≡ solve.solveOne real32 sys (λ x. x) (now (a .entry)) 0 l (now (b .entry)) ⌝ }
+{
+    let diag = sys.diag;
+    let m = rows(sys.b);
+    let q = in_order(sys.last, m, 0);
+    let x = elem32(b, sys.b, q, l).0;
+    let y = by_pivot(diag, sys.conjugated, a, sys.a, q, place(sys.a, q, q), x);
+    put32(b, place(sys.b, q, l), Real32(y));
+}
+
+// That unknown in the first n lines.
+fn right_begin(sys: System, a: &[f32], b: &mut [f32], n: usize)
+    requires { ⌜ Ready sys (real32 .count (now a)) (real32 .count (now b)) × ((n ≤ sys .b .cols) × (0 < sys .b .rows)) ⌝ }
+    ensures { λ _. ⌜ now (b .exit) ≡ solve.solveAcross real32 sys (λ x. x) (now (a .entry)) n 0 (now (b .entry)) ⌝ }
+{
+    let mut l = 0;
+    while l < n {
+        right_first(sys, a, b, l);
+        l += 1;
+    }
+}
+
 // The unknown that comes after k others, in the first n lines, with A on the right.
 fn right_across(sys: System, a: &[f32], b: &mut [f32], n: usize, k: usize)
     requires { ⌜ Ready sys (real32 .count (now a)) (real32 .count (now b)) × ((n ≤ sys .b .cols) × (k < sys .b .rows)) ⌝ }
@@ -470,7 +524,11 @@ fn right_unknowns(sys: System, a: &[f32], b: &mut [f32], n: usize, m: usize)
     requires { ⌜ Ready sys (real32 .count (now a)) (real32 .count (now b)) × ((n ≤ sys .b .cols) × (m ≤ sys .b .rows)) ⌝ }
     ensures { λ _. ⌜ now (b .exit) ≡ solve.solveUnknowns real32 sys (λ x. x) (now (a .entry)) n m (now (b .entry)) ⌝ }
 {
-    let mut k = 0;
+    if m == 0 {
+        return;
+    }
+    right_begin(sys, a, b, n);
+    let mut k = 1;
     while k < m {
         right_across(sys, a, b, n, k);
         k += 1;

@@ -1,0 +1,52 @@
+use Prim.Native.Nat.{_≤_, _-_}
+use mathlib.Core.Path.{_≡_, refl, _∙_}
+use native.Mathlib.Omega.{arith}
+use lib.ListN.{length}
+use Rattle.number.specs.Kind.{real64}
+use Rattle.order.specs.Walk.{walk}
+use Rattle.order.specs.Solve.{solveOne}
+use Rattle.order.proofs.WalkLaws.{walk-start, walk-next, walk-end}
+use Rattle.order.proofs.Systems.{ready-for}
+use Rattle.triangle_real64.proofs.right_begin.Statement.{statement}
+use Rattle.triangle_real64.proofs.right_begin.Tie as tie
+
+abbrev Inv-loop : tie.InvT-loop
+Inv-loop sys a b₀ n l₀ b l = (l ≤ n) × (length b ≡ length b₀) × (b ≡ walk l (λ j. solveOne real64 sys (λ x. x) a 0 j) b₀)
+
+abbrev μ-loop : tie.MeasureT-loop
+μ-loop sys a b₀ n l₀ b l = n - l
+
+loop-holds : tie.Need-loop-holds Inv-loop μ-loop
+loop-holds c = (omega arith, refl, walk-start _ _)
+
+right-first-requires : tie.Need-right-first-requires Inv-loop μ-loop
+right-first-requires c κs = let p = c .before .before .before .before .before .pre in ready-for _ _ _ _ _ _ _ _ (p .0) (c .before .before .loop .inv .1) refl refl (p .1 .1) (omega (arith, p .1 .0))
+
+add-l : tie.Need-add-l Inv-loop μ-loop
+add-l c = omega arith
+
+loop-less : tie.Need-loop-less Inv-loop μ-loop
+loop-less c = omega arith
+
+loop-again : tie.Need-loop-again Inv-loop μ-loop
+loop-again c = (omega arith, c .before .before .right-first .kept .1 .1 .0 ∙ c .before .before .before .before .before .loop .inv .1, walk-next _ _ _ _ _ (c .before .before .before .before .before .loop .inv .2) (c .before .before .right-first .ensures))
+
+same-length : tie.Need-same-length Inv-loop μ-loop
+same-length c = c .before .loop .inv .1
+
+returns : tie.Need-returns Inv-loop μ-loop
+returns c = walk-end _ _ _ _ _ (c .before .loop .inv .0) (omega arith) (c .before .loop .inv .2)
+
+pub right-begin-spec : {M : Type 1} → statement M
+right-begin-spec =
+    tie.close
+    (tie.spec
+    Inv-loop
+    μ-loop
+    loop-holds
+    right-first-requires
+    add-l
+    loop-less
+    loop-again
+    same-length
+    returns)
