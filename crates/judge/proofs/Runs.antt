@@ -80,6 +80,12 @@ leads-on n (negsuc k) r h = absurd (at k (r .forward))
     at : (k : ℕ) → suc k ≡ 0 → ⊥
     at k e = omega arith
 
+-- n steps of a stride that leads on
+pub no-shorter : (n s : ℕ) → 0 < s → n ≤ n * s
+no-shorter n s h =
+    let k : n * 1 ≤ n * s = mul-le-mul {n₂ = n} {m₂ = s} (omega arith) (omega (arith, h)) in
+    omega (arith, k, mul-one n)
+
 -- ---- vectors
 
 -- a vector of length n

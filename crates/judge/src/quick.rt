@@ -77,20 +77,18 @@ fn plain(v: View, len: usize) -> bool
     false
 }
 
-// Whether each row is past the one before it, or each column.
+// Whether each row is past the one before it, or each column, neither standing still.
 fn apart(rows: usize, cols: usize, rs: i64, cs: i64) -> bool
     requires { ⌜ Run rows rs × Run cols cs ⌝ }
     ensures { λ r. ⌜ (r ≡ true → meets rows (up rs) cols (up cs) ≡ false) ⌝ }
 {
     let across = reach(cols, cs);
     if across < rs as usize {
-        if cols - 1 <= across {
-            return true;
-        }
+        return cs != 0;
     }
     let along = reach(rows, rs);
     if along < cs as usize {
-        return rows - 1 <= along;
+        return rs != 0;
     }
     false
 }

@@ -8,12 +8,11 @@ use lib.Signed.{nonNeg}
 use mir.Syntax.{w64}
 use mir.Val.{Fits}
 use mir.Facts.{toZ-ofZ}
-use borrow.Author.Tests.{leb-true}
 use Rattle.view.specs.Steps.{up}
 use Rattle.judge.specs.Tests.{Run}
 use Rattle.view.specs.OverlapLaws.{no-meeting}
 use Rattle.refusal.proofs.Multiples.{flip, each-past}
-use Rattle.judge.proofs.Runs.{no-test, run-cast, run-abs}
+use Rattle.judge.proofs.Runs.{no-test, differs, leads-on, no-shorter, run-cast, run-abs}
 use Rattle.judge.proofs.quick.apart.Statement.{statement}
 use Rattle.judge.proofs.quick.apart.Tie as tie
 
@@ -25,38 +24,33 @@ cast-if1 c =
     let s = c .before in
     subst (λ (z : ℤ). T (nonNeg z) × Fits w64 (natAbs z)) (sym (toZ-ofZ (s .fits .rs))) (run-cast (s .args .rows) (s .args .rs) (s .pre .0))
 
-sub-if2 : tie.Need-sub-if2
-sub-if2 c = omega (arith, c .before .before .pre .1 .some)
-
 returns : tie.Need-returns
 returns c h =
-    let s = c .before .before .before in
-    let e = c .before .before .reach .ensures ∙ ap (λ (z : ℤ). (s .args .cols - 1) * up z) (toZ-ofZ (s .fits .cs)) in
+    let s = c .before .before in
+    let e = c .before .reach .ensures ∙ ap (λ (z : ℤ). (s .args .cols - 1) * up z) (toZ-ofZ (s .fits .cs)) in
     let x = ap natAbs (toZ-ofZ (s .fits .rs)) ∙ run-abs (s .args .rows) (s .args .rs) (s .pre .0) in
+    let l = leads-on (s .args .cols) (s .args .cs) (s .pre .1) (differs _ 0 h) in
     no-meeting (s .args .rows) (up (s .args .rs)) (s .args .cols) (up (s .args .cs))
-    (each-past (s .args .rows) (up (s .args .rs)) (s .args .cols) (up (s .args .cs)) (omega (arith, c .if2 .taken, e)) (omega (arith, c .before .if1 .taken, e, x)))
+    (each-past (s .args .rows) (up (s .args .rs)) (s .args .cols) (up (s .args .cs)) (no-shorter (s .args .cols - 1) (up (s .args .cs)) l) (omega (arith, c .if1 .taken, e, x)))
 
 reach-requires-2 : tie.Need-reach-requires-2
 reach-requires-2 c κs =
     let s = c .before .before in
     subst (Run (s .args .rows)) (sym (toZ-ofZ (s .fits .rs))) (s .pre .0)
 
-cast-if3 : tie.Need-cast-if3
-cast-if3 c =
+cast-if2 : tie.Need-cast-if2
+cast-if2 c =
     let s = c .before .before .before in
     subst (λ (z : ℤ). T (nonNeg z) × Fits w64 (natAbs z)) (sym (toZ-ofZ (s .fits .cs))) (run-cast (s .args .cols) (s .args .cs) (s .pre .1))
-
-sub-result : tie.Need-sub-result
-sub-result c = omega (arith, c .before .before .before .before .pre .0 .some)
 
 returns-2 : tie.Need-returns-2
 returns-2 c h =
     let s = c .before .before .before .before in
     let d = c .before .reach2 .ensures ∙ ap (λ (z : ℤ). (s .args .rows - 1) * up z) (toZ-ofZ (s .fits .rs)) in
     let y = ap natAbs (toZ-ofZ (s .fits .cs)) ∙ run-abs (s .args .cols) (s .args .cs) (s .pre .1) in
-    let l = leb-true (s .args .rows - 1) (c .before .reach2 .result) h in
+    let l = leads-on (s .args .rows) (s .args .rs) (s .pre .0) (differs _ 0 h) in
     no-meeting (s .args .rows) (up (s .args .rs)) (s .args .cols) (up (s .args .cs))
-    (λ m. each-past (s .args .cols) (up (s .args .cs)) (s .args .rows) (up (s .args .rs)) (omega (arith, l, d)) (omega (arith, c .if3 .taken, d, y)) (flip m))
+    (λ m. each-past (s .args .cols) (up (s .args .cs)) (s .args .rows) (up (s .args .rs)) (no-shorter (s .args .rows - 1) (up (s .args .rs)) l) (omega (arith, c .if2 .taken, d, y)) (flip m))
 
 returns-3 : tie.Need-returns-3
 returns-3 c h = no-test h
@@ -67,10 +61,8 @@ apart-spec =
     (tie.spec
     reach-requires
     cast-if1
-    sub-if2
     returns
     reach-requires-2
-    cast-if3
-    sub-result
+    cast-if2
     returns-2
     returns-3)
