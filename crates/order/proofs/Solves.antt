@@ -21,7 +21,7 @@ use Rattle.view.specs.declared.UpLo.{UpLo}
 use Rattle.view.specs.declared.Diag.{Diag}
 use Rattle.view.specs.declared.Diag.the-variants.{NonUnit, Unit}
 use Rattle.view.specs.Any.{any}
-use Rattle.view.specs.AnyLaws.{found, finds, and-both, and-left, and-right, is-false, clash}
+use Rattle.view.specs.AnyLaws.{found, finds, none, none-at, and-both, and-left, and-right, is-false, clash}
 use Rattle.view.specs.Checks.{orderOf}
 use Rattle.view.specs.Judge.{answerNumber}
 use Rattle.view.specs.Place.{index}
@@ -76,8 +76,7 @@ pub any-found : (f : ℕ → Bool) (n m k : ℕ) (b : Bool) → m ≡ n → k < 
 any-found f n m k b e h told t = sym (found n f k (subst (λ (x : ℕ). k < x) e h) (sym told ∙ t))
 
 pub any-nowhere : (f : ℕ → Bool) (n m k : ℕ) → m ≡ n → m ≤ k → Clear f k → false ≡ any n f
-any-nowhere f n m k e g cleared =
-    sym (is-false (any n f) (λ t. let w = finds n f t in let h = w .1 in clash (w .2) (cleared .none (w .0) (omega (arith, h)))))
+any-nowhere f n m k e g cleared = sym (none n f (λ i h. cleared .none i (omega arith)))
 
 -- ---- one unknown, by parts
 
@@ -117,8 +116,7 @@ module _ (K : Kind) (y : System) (a : List (K .Cell)) where
       counted
       ∙ sym
       (first-none (y .b .rows) (zeroAfter K y a)
-      (λ i g. is-false (zeroAfter K y a i)
-      (λ t. clash (found (y .b .rows) (λ q. zeroDiag K (y .diag) (elem K a (y .a) q q)) (inOrder (y .last) (y .b .rows) i) (in-order-lt (y .last) (y .b .rows) i g) t) (sym told ∙ h))))
+      (λ i g. none-at (y .b .rows) (λ q. zeroDiag K (y .diag) (elem K a (y .a) q q)) (sym told ∙ h) (inOrder (y .last) (y .b .rows) i) (in-order-lt (y .last) (y .b .rows) i g)))
 
 -- ---- one unknown is the definition's
 

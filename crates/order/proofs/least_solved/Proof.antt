@@ -3,18 +3,13 @@ use mathlib.Core.Path.{refl}
 use borrow.Author.Needs.{needs}
 use Rattle.order.proofs.least_solved.Statement.{statement}
 use Rattle.order.proofs.least_solved.Tie as tie
-use Rattle.order.proofs.least_solved.Reads as reads
-use Rattle.order.proofs.least_solved.Lts as lts
 
--- src/lib.rt:87:15
 sub-result : tie.Need-sub-result
 sub-result c = search needs
 
--- src/lib.rt:83:1
 returns : tie.Need-returns
 returns c = (rw (c .if1 .taken) (omega arith), omega arith)
 
--- src/lib.rt:83:1
 returns-2 : tie.Need-returns-2
 returns-2 c = (rw (c .if1 .left) refl, omega arith)
 

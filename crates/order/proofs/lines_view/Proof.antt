@@ -1,27 +1,19 @@
 use borrow.Author.Needs.{needs}
 use Rattle.order.proofs.lines_view.Statement.{statement}
 use Rattle.order.proofs.lines_view.Tie as tie
-use Rattle.order.proofs.lines_view.Reads as reads
-use Rattle.order.proofs.lines_view.Lts as lts
-use Rattle.view.proofs.transposed.Reads as transposed-reads
 
--- src/lib.rt:95:23
 enum-told : tie.Need-enum-told
 enum-told c = search needs
 
--- src/lib.rt:96:24
 enum-told-2 : tie.Need-enum-told-2
 enum-told-2 c = search needs
 
--- src/lib.rt:96:24
 transposed-requires : tie.Need-transposed-requires
 transposed-requires c κs = search needs
 
--- src/lib.rt:91:1
 returns : tie.Need-returns
 returns c = search needs
 
--- src/lib.rt:91:1
 returns-2 : tie.Need-returns-2
 returns-2 c = rw (c .before .enum-told2 .given .1) (c .transposed .ensures)
 

@@ -3,34 +3,22 @@ use Rattle.order.specs.Triangles.{linesView}
 use borrow.Author.Needs.{needs}
 use Rattle.order.proofs.system_of.Statement.{statement}
 use Rattle.order.proofs.system_of.Tie as tie
-use Rattle.order.proofs.system_of.Reads as reads
-use Rattle.order.proofs.system_of.Lts as lts
-use Rattle.order.proofs.last_first.Reads as last-first-reads
-use Rattle.order.proofs.lines_view.Reads as lines-view-reads
-use Rattle.view.proofs.conjugates.Reads as conjugates-reads
-use Rattle.view.proofs.op_view.Reads as op-view-reads
 
--- src/lib.rt:104:9
 conjugates-requires : tie.Need-conjugates-requires
 conjugates-requires c κs = search needs
 
--- src/lib.rt:105:9
 last-first-requires : tie.Need-last-first-requires
 last-first-requires c κs = search needs
 
--- src/lib.rt:106:31
 op-view-requires : tie.Need-op-view-requires
 op-view-requires c κs = search needs
 
--- src/lib.rt:106:9
 lines-view-requires : tie.Need-lines-view-requires
 lines-view-requires c κs = search needs
 
--- src/lib.rt:107:9
 lines-view-requires-2 : tie.Need-lines-view-requires-2
 lines-view-requires-2 c κs = search needs
 
--- src/lib.rt:101:1
 returns : tie.Need-returns
 returns c =
     let p = c .before .before .before .before .before .args in
