@@ -1,8 +1,8 @@
 -- Where a routine answers 0, its outcome replaces the shown elements that it admits: one law for every routine whose work is an update.
-use Prim.Native.Nat.{ℕ}
-use mathlib.Core.Bool.{false}
+use Prim.Native.Nat.{ℕ, _<_}
+use mathlib.Core.Bool.{Bool, false, cond}
 use mathlib.Core.List.{List}
-use mathlib.Core.Path.{_≡_, refl}
+use mathlib.Core.Path.{_≡_, refl, ap, _∙_}
 use native.Mathlib.Omega.{arith}
 use Rattle.number.specs.Kind.{Kind}
 use Rattle.number.specs.Laws.{SlabLaws}
@@ -12,6 +12,7 @@ use Rattle.view.specs.declared.Answer.the-variants.{Done, TooLarge, OutOfBounds
 use Rattle.view.specs.Refusals.{Fits, overlaps}
 use Rattle.view.specs.PlaceLaws.{fits→index-lt}
 use Rattle.view.specs.OverlapLaws.{no-overlap→index-inj}
+use Rattle.slab.specs.Elem.{elem}
 use Rattle.slab.specs.Distinct.{Inside, Distinct}
 use Rattle.slab.specs.Update.{Mask, Change, update}
 use Rattle.slab.proofs.UpdateLaws.{length-update, update-shown, update-cell}
@@ -25,13 +26,19 @@ pub apart-distinct : (v : View) (n : ℕ) → Fits v n → overlaps v ≡ false 
 apart-distinct v n h o = record { only = λ r c r' c' p q p' q' e. no-overlap→index-inj v n h o r c r' c' p q p' q' e }
 
 module _ (K : Kind) (L : SlabLaws K) (v : View) (mask : Mask) (u : Change K) (s : List (K .Cell)) where
-  replaces : Fits v (K .count s) → overlaps v ≡ false → Replaces K v mask u s (update K v mask u s)
+  pub replaces : Fits v (K .count s) → overlaps v ≡ false → Replaces K v mask u s (update K v mask u s)
   replaces h o =
       record {
-        size = length-update K L v mask u s;
-        shown = λ i j p q. update-shown K L v mask u s (fits-inside v (K .count s) h) (apart-distinct v (K .count s) h o) i j p q;
-        other = λ n d away. update-cell K L v mask u s n d away;
+        written = λ i j p q m. shown i j p q ∙ ap (λ (b : Bool). cond b (u i j (elem K s v i j)) (elem K s v i j)) m;
+        kept = record {
+          size = length-update K L v mask u s;
+          unwritten = λ i j p q m. shown i j p q ∙ ap (λ (b : Bool). cond b (u i j (elem K s v i j)) (elem K s v i j)) m;
+          other = λ n d away. update-cell K L v mask u s n d away;
+        };
       }
+    where
+      shown : (i j : ℕ) → i < v .rows → j < v .cols → elem K (update K v mask u s) v i j ≡ cond (mask i j) (u i j (elem K s v i j)) (elem K s v i j)
+      shown i j p q = update-shown K L v mask u s (fits-inside v (K .count s) h) (apart-distinct v (K .count s) h o) i j p q
 
   -- what a passed check says of the target is enough
   pub element-law : (check : Answer) → (check ≡ Done → Fits v (K .count s) × (overlaps v ≡ false))

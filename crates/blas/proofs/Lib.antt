@@ -4,4 +4,6 @@ pub mod OutcomeLaws
 pub mod Elements
 pub mod OverLaws
 pub mod SubstitutionLaws
+pub mod Solves
+pub mod SolvesExamples
 pub mod OpLaws

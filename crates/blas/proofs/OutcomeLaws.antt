@@ -21,8 +21,8 @@ done-is Singular h = cc
 pub check-done : (check r : Answer) (flag : Bool) → r ≡ check → flag ≡ isDone r → flag ≡ true → check ≡ Done
 check-done check r flag e d h = sym e ∙ done-is r (sym d ∙ h)
 
-module _ (K : Kind) (work lent : List (K .Cell)) where
-  stays : (a : Answer) → isDone a ≡ false → Gives K (outcome K a work lent) a lent
+module _ (K : Kind) (work entry : List (K .Cell)) where
+  stays : (a : Answer) → isDone a ≡ false → Gives K (outcome K a work entry) a entry
   stays Done h = absurd (clash h)
     where
       clash : true ≡ false → ⊥
@@ -34,12 +34,12 @@ module _ (K : Kind) (work lent : List (K .Cell)) where
   stays Singular h = record { answer = refl; slab = refl }
 
   -- r is the check's answer, the flag says that it is a refusal, and no more was done
-  pub gives-refusal : (check r : Answer) (flag : Bool) → r ≡ check → flag ≡ isDone r → flag ≡ false → Gives K (outcome K check work lent) r lent
-  gives-refusal check r flag e d h = subst (λ (a : Answer). Gives K (outcome K a work lent) r lent) e (stays r (sym d ∙ h))
+  pub gives-refusal : (check r : Answer) (flag : Bool) → r ≡ check → flag ≡ isDone r → flag ≡ false → Gives K (outcome K check work entry) r entry
+  gives-refusal check r flag e d h = subst (λ (a : Answer). Gives K (outcome K a work entry) r entry) e (stays r (sym d ∙ h))
 
   -- r is the check's answer, the flag says that it is no refusal, and the work is done
   pub gives-work : (check r : Answer) (flag : Bool) (after : List (K .Cell)) → r ≡ check → flag ≡ isDone r → flag ≡ true → after ≡ work
-      → Gives K (outcome K check work lent) r after
+      → Gives K (outcome K check work entry) r after
   gives-work check r flag after e d h w =
-      subst (λ (a : Answer). Gives K (outcome K a work lent) r after) e
-      (subst (λ (a : Answer). Gives K (outcome K a work lent) a after) (sym (done-is r (sym d ∙ h))) (record { answer = refl; slab = w }))
+      subst (λ (a : Answer). Gives K (outcome K a work entry) r after) e
+      (subst (λ (a : Answer). Gives K (outcome K a work entry) a after) (sym (done-is r (sym d ∙ h))) (record { answer = refl; slab = w }))

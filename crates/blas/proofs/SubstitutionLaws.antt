@@ -1,47 +1,55 @@
 -- Substitution as a loop meets it: a difference's first and next step, solving order, the first zero pivot, and where the n-th element stands.
-use Prim.Native.Nat.{ℕ, zero, suc, _+_, _*_, _/_, _≤_, _<_}
+use Prim.Native.Nat.{ℕ, zero, suc, _+_, _-_, _*_, _/_, _≤_, _<_}
 use mathlib.Core.Bool.{Bool, true, false, cond}
 use mathlib.Core.Path.{_≡_, refl, ap, subst, _∙_}
-use native.Mathlib.Nat.{zero-mul, mul-comm, mod-lt, div-lt-iff-lt-mul}
+use native.Mathlib.Nat.{zero-mul, mul-comm, mod-lt, div-lt-iff-lt-mul, div-add-mod'}
 use native.Mathlib.Numerals.{add-one}
 use native.Mathlib.Omega.{arith}
+use lib.Arith.{digits-lt, digits-div, digits-mod}
 use Rattle.number.specs.Kind.{Kind}
 use Rattle.view.specs.declared.View.{View}
 use Rattle.view.specs.declared.Side.{Side}
 use Rattle.view.specs.declared.Side.the-variants.{Left, Right}
 use Rattle.view.specs.Checks.{orderOf}
 use Rattle.view.specs.AnyLaws.{none, clash}
-use Rattle.blas.specs.Substitution.{inOrder, turnOf, firstAt, less}
+use Rattle.blas.specs.Substitution.{inOrder, leastSolved, turnOf, lineOf, firstAt, minusTerms}
+use Rattle.blas.specs.Solves.{linesOf, minusBefore}
 
 -- ---- a difference
 
 module _ (K : Kind) (x : K .Elem) (f : ℕ → K .Elem) (from : ℕ) where
-  pub less-start : less K x f from 0 ≡ x
-  unfolding less
-  less-start = refl
+  pub minus-start : minusTerms K x f from 0 ≡ x
+  unfolding minusTerms
+  minus-start = refl
 
-  pub less-next : (n : ℕ) (y z w : K .Elem) → y ≡ less K x f from n → z ≡ f (from + n) → w ≡ K .sub y z → w ≡ less K x f from (n + 1)
-  unfolding less
-  less-next n y z w h g e = rw add-one (e ∙ (λ i. K .sub (h i) (g i)))
+  pub minus-next : (n : ℕ) (y z w : K .Elem) → y ≡ minusTerms K x f from n → z ≡ f (from + n) → w ≡ K .sub y z → w ≡ minusTerms K x f from (n + 1)
+  unfolding minusTerms
+  minus-next n y z w h g e = rw add-one (e ∙ (λ i. K .sub (h i) (g i)))
 
   -- a loop that is left at p has subtracted n terms
-  pub less-end : (p n : ℕ) (y : K .Elem) → p ≤ n → n ≤ p → y ≡ less K x f from p → y ≡ less K x f from n
-  less-end p n y h g e =
+  pub minus-end : (p n : ℕ) (y : K .Elem) → p ≤ n → n ≤ p → y ≡ minusTerms K x f from p → y ≡ minusTerms K x f from n
+  minus-end p n y h g e =
       let q : p ≡ n = omega arith in
-      subst (λ (k : ℕ). y ≡ less K x f from k) q e
+      subst (λ (k : ℕ). y ≡ minusTerms K x f from k) q e
 
   -- two terms in a round, and the last one where their number is odd
-  pub less-two : (i : ℕ) (y z w : K .Elem) → y ≡ less K x f from (2 * i) → z ≡ K .sub y (f (from + 2 * i)) → w ≡ K .sub z (f (from + (2 * i + 1))) → w ≡ less K x f from (2 * (i + 1))
-  less-two i y z w h g e =
-      let one = less-next (2 * i) y (f (from + 2 * i)) z h refl g in
-      let two = less-next (2 * i + 1) z (f (from + (2 * i + 1))) w one refl e in
-      subst (λ (k : ℕ). w ≡ less K x f from k) (twice i) two
+  pub minus-two : (i : ℕ) (y z w : K .Elem) → y ≡ minusTerms K x f from (2 * i) → z ≡ K .sub y (f (from + 2 * i)) → w ≡ K .sub z (f (from + (2 * i + 1))) → w ≡ minusTerms K x f from (2 * (i + 1))
+  minus-two i y z w h g e =
+      let one = minus-next (2 * i) y (f (from + 2 * i)) z h refl g in
+      let two = minus-next (2 * i + 1) z (f (from + (2 * i + 1))) w one refl e in
+      subst (λ (k : ℕ). w ≡ minusTerms K x f from k) (twice i) two
     where
       twice : (i : ℕ) → 2 * i + 1 + 1 ≡ 2 * (i + 1)
       twice i = omega arith
 
-  pub less-odd : (i n : ℕ) (y w : K .Elem) → 2 * i + 1 ≡ n → y ≡ less K x f from (2 * i) → w ≡ K .sub y (f (from + 2 * i)) → w ≡ less K x f from n
-  less-odd i n y w o e g = subst (λ (j : ℕ). w ≡ less K x f from j) o (less-next (2 * i) y (f (from + 2 * i)) w e refl g)
+  pub minus-odd : (i n : ℕ) (y w : K .Elem) → 2 * i + 1 ≡ n → y ≡ minusTerms K x f from (2 * i) → w ≡ K .sub y (f (from + 2 * i)) → w ≡ minusTerms K x f from n
+  minus-odd i n y w o e g = subst (λ (j : ℕ). w ≡ minusTerms K x f from j) o (minus-next (2 * i) y (f (from + 2 * i)) w e refl g)
+
+-- what is taken off agrees
+pub minus-cong : (K : Kind) (x y : K .Elem) (f g : ℕ → K .Elem) (from n : ℕ) → x ≡ y → ((i : ℕ) → i < n → f (from + i) ≡ g (from + i)) → minusTerms K x f from n ≡ minusTerms K y g from n
+unfolding minusTerms
+minus-cong K x y f g from zero e h = e
+minus-cong K x y f g from (suc n) e h = λ i. K .sub (minus-cong K x y f g from n e (λ j l. h j (omega arith)) i) (h n (omega arith) i)
 
 -- ---- solving order
 
@@ -53,6 +61,23 @@ in-order-lt false m k h = h
 pub in-order-twice : (last : Bool) (m k : ℕ) → k < m → inOrder last m (inOrder last m k) ≡ k
 in-order-twice true m k h = omega arith
 in-order-twice false m k h = refl
+
+-- the unknowns that are solved before are unknowns of the line, each of them solved earlier
+pub solved-below : (last : Bool) (m k i : ℕ) → k < m → i < k → leastSolved last m k + i < m
+solved-below true m k i h g = omega arith
+solved-below false m k i h g = omega arith
+
+pub before-earlier : (last : Bool) (m k p : ℕ) → k < m → leastSolved last m k ≤ p → p < leastSolved last m k + k → inOrder last m p < k
+before-earlier true m k p h l g = omega arith
+before-earlier false m k p h l g = omega arith
+
+-- the unknowns before the one that is solved after k others, from the least
+pub minus-before : (K : Kind) (last : Bool) (m k : ℕ) (f : ℕ → K .Elem) (x : K .Elem) → k < m → minusTerms K x f (leastSolved last m k) k ≡ minusBefore K last m (inOrder last m k) f x
+minus-before K true m k f x h =
+    let d : m - k ≡ suc (m - suc k) = omega arith in
+    let e : k ≡ m - suc (m - suc k) = omega arith in
+    λ i. minusTerms K x f (d i) (e i)
+minus-before K false m k f x h = refl
 
 -- the first number at which f passes
 pub first-is : (m : ℕ) (f : ℕ → Bool) (n : ℕ) → n < m → f n ≡ true → ((k : ℕ) → k < n → f k ≡ false) → firstAt m f ≡ n
@@ -98,6 +123,32 @@ first-true (suc m) f h = go (f 0) refl h (first-true m (λ k. f (suc k)))
     go true d h later = d
     go false d h later = later (omega arith)
 
+pub first-le : (n : ℕ) (f : ℕ → Bool) → firstAt n f ≤ n
+unfolding firstAt
+first-le zero f = omega arith
+first-le (suc n) f = go (f 0) (first-le n (λ k. f (suc k)))
+  where
+    go : (b : Bool) → firstAt n (λ k. f (suc k)) ≤ n → cond b zero (suc (firstAt n (λ k. f (suc k)))) ≤ suc n
+    go true h = omega arith
+    go false h = omega arith
+
+-- it passes at no number before
+pub first-before : (m : ℕ) (f : ℕ → Bool) (k : ℕ) → k < firstAt m f → f k ≡ false
+unfolding firstAt
+first-before zero f k h = absurd (none k h)
+  where
+    none : (n : ℕ) → n < 0 → ⊥
+    none n h = omega arith
+first-before (suc m) f k h = go (f 0) refl k h (first-before m (λ j. f (suc j)))
+  where
+    none : (n : ℕ) → n < 0 → ⊥
+    none n h = omega arith
+
+    go : (b : Bool) → f 0 ≡ b → (k : ℕ) → k < cond b zero (suc (firstAt m (λ j. f (suc j)))) → ((j : ℕ) → j < firstAt m (λ i. f (suc i)) → f (suc j) ≡ false) → f k ≡ false
+    go true d k h later = absurd (none k h)
+    go false d zero h later = d
+    go false d (suc k) h later = later k (omega arith)
+
 -- ---- the n-th element
 
 pub factor-pos : (n r c : ℕ) → n < r * c → 0 < r
@@ -113,3 +164,29 @@ quotient-lt n r c h = div-lt-iff-lt-mul (factor-pos n r c h) .1 (subst (λ (k : 
 pub turn-lt : (side : Side) (v : View) (n : ℕ) → n < v .rows * v .cols → turnOf side v n < orderOf side v
 turn-lt Left v n h = mod-lt n (factor-pos n (v .rows) (v .cols) h)
 turn-lt Right v n h = quotient-lt n (v .rows) (v .cols) h
+
+pub line-lt : (side : Side) (v : View) (n : ℕ) → n < v .rows * v .cols → lineOf side v n < linesOf side v
+line-lt Left v n h = quotient-lt n (v .rows) (v .cols) h
+line-lt Right v n h = mod-lt n (factor-pos n (v .rows) (v .cols) h)
+
+-- the number, in solving order, of the unknown of line l that is solved after k others of its line
+abbrev pub numberOf : Side → View → ℕ → ℕ → ℕ
+numberOf Left v k l = l * v .rows + k
+numberOf Right v k l = k * v .rows + l
+
+pub number-is : (side : Side) (v : View) (n : ℕ) → numberOf side v (turnOf side v n) (lineOf side v n) ≡ n
+number-is Left v n = div-add-mod' n (v .rows)
+number-is Right v n = div-add-mod' n (v .rows)
+
+pub number-turn : (side : Side) (v : View) (k l : ℕ) → k < orderOf side v → l < linesOf side v
+    → (turnOf side v (numberOf side v k l) ≡ k) × (lineOf side v (numberOf side v k l) ≡ l)
+number-turn Left v k l h g = (digits-mod l h, digits-div l h)
+number-turn Right v k l h g = (digits-div k g, digits-mod k g)
+
+pub number-lt : (side : Side) (v : View) (k l : ℕ) → k < orderOf side v → l < linesOf side v → numberOf side v k l < v .rows * v .cols
+number-lt Left v k l h g = let w : l * v .rows + k < v .cols * v .rows = digits-lt g h in omega arith
+number-lt Right v k l h g = let w : k * v .rows + l < v .cols * v .rows = digits-lt h g in omega arith
+
+pub number-earlier : (side : Side) (v : View) (i k l : ℕ) → i < k → l < linesOf side v → numberOf side v i l < numberOf side v k l
+number-earlier Left v i k l h g = omega arith
+number-earlier Right v i k l h g = let w : i * v .rows + l < k * v .rows = digits-lt h g in omega arith

@@ -1,5 +1,5 @@
 -- gemm: C ← alpha op(A) op(B) + beta C.
--- The Rust decides: beta 0 writes ZERO without reading the target and beta 1 keeps it; the sum begins at ZERO, runs by rising index and is multiplied by alpha
+-- The Rust decides: with beta 0 ZERO stands for the old element, whatever it is, and beta 1 keeps it; the sum begins at ZERO, runs by rising index and is multiplied by alpha
 -- as a whole, with no shortcut for alpha 0 or an empty sum.
 use Rattle.number.specs.Kind.{Kind}
 use Rattle.number.specs.Scaling.{scaled}

@@ -1,4 +1,6 @@
--- her: A ← A + alpha x xᴴ, of which the named triangle is written. alpha is real. The diagonal's imaginary part is computed like any other.
+-- her: A ← A + alpha x xᴴ, of which the named triangle is written. alpha is real.
+-- The Rust decides: there is no beta, and the old element is always read; alpha multiplies xi first; there is no shortcut for alpha 0; the diagonal's
+-- imaginary part is computed like any other. Document 01 decides: a real factor is the complex number (v, +0).
 use Prim.Native.Nat.{ℕ}
 use Rattle.number.specs.Kind.{Kind}
 use Rattle.slab.specs.Elem.{Lent}

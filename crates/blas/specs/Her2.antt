@@ -1,4 +1,6 @@
--- her2: A ← A + alpha x yᴴ + conj(alpha) y xᴴ, of which the named triangle is written. The diagonal's imaginary part is computed like any other.
+-- her2: A ← A + alpha x yᴴ + conj(alpha) y xᴴ, of which the named triangle is written.
+-- The Rust decides: there is no beta, and the old element is always read; the two terms are added one after the other, each with its scalar on the
+-- first factor; there is no shortcut for alpha 0; the diagonal's imaginary part is computed like any other.
 use Prim.Native.Nat.{ℕ}
 use Rattle.number.specs.Kind.{Kind}
 use Rattle.slab.specs.Elem.{Lent}

@@ -1,6 +1,8 @@
 -- her2k: C ← alpha A Bᴴ + conj(alpha) B Aᴴ + beta C (NoTrans) or alpha Aᴴ B + conj(alpha) Bᴴ A + beta C (ConjTrans), of which the named
--- triangle is scaled and written. beta is real. Trans is taken as ConjTrans. alpha multiplies inside the sum, and not again outside.
--- The diagonal's imaginary part is computed like any other.
+-- triangle is scaled and written. beta is real.
+-- The Rust decides: Trans is taken as ConjTrans; one sum from ZERO with two additions an index; alpha multiplies inside the sum, and not again outside;
+-- beta is judged on the real number and acts as in gemm; the diagonal's imaginary part is computed like any other. Document 01 decides: a real
+-- factor is the complex number (v, +0).
 use Prim.Native.Nat.{ℕ}
 use Rattle.number.specs.Kind.{Kind}
 use Rattle.number.specs.Scaling.{scaledReal}
@@ -14,7 +16,7 @@ use Rattle.view.specs.declared.Trans.{Trans}
 use Rattle.view.specs.declared.UpLo.{UpLo}
 use Rattle.view.specs.Checks.{opCols, her2kCheck}
 
--- element (i, j) of alpha A Bᴴ + conj(alpha) B Aᴴ, with n terms of each
+-- element (i, j) of alpha A Bᴴ + conj(alpha) B Aᴴ (NoTrans) or of alpha Aᴴ B + conj(alpha) Bᴴ A, with n terms of each
 abbrev pub her2kProduct : (K : Kind) → Trans → K .Elem → ℕ → Matrix K → Matrix K → Matrix K
 her2kProduct K trans alpha n a b i j =
     pairSum K n

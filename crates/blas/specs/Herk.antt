@@ -1,6 +1,7 @@
 -- herk: C ← alpha A Aᴴ + beta C (NoTrans) or alpha Aᴴ A + beta C (ConjTrans), of which the named triangle is scaled and written.
--- alpha and beta are real. The Rust decides: Trans is taken as ConjTrans; a real factor is the complex number (v, +0), and beta is judged on the real number; the
--- diagonal's imaginary part is computed like any other; beta, the sum and alpha are as in gemm.
+-- alpha and beta are real.
+-- The Rust decides: Trans is taken as ConjTrans; beta is judged on the real number; the diagonal's imaginary part is computed like any other; beta,
+-- the sum and alpha are as in gemm. Document 01 decides: a real factor is the complex number (v, +0).
 use Rattle.number.specs.Kind.{Kind}
 use Rattle.number.specs.Scaling.{scaledReal}
 use Rattle.slab.specs.Elem.{Lent}

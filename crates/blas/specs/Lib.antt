@@ -1,4 +1,5 @@
--- The BLAS routines, each in a file of its own, for any number kind. Matrix has what they share, Outcome what a call answers and leaves.
+-- The BLAS routines, each in a file of its own, for any number kind. Matrix has what they share, Outcome what a call answers and leaves;
+-- Elements and Solves say it element by element.
 pub mod Matrix
 pub mod Outcome
 pub mod Elements
@@ -19,3 +20,4 @@ pub mod Trmm
 pub mod Substitution
 pub mod Trsv
 pub mod Trsm
+pub mod Solves

@@ -53,6 +53,6 @@ pairSum K (suc n) f g = K .add (K .add (pairSum K n f g) (f n)) (g n)
 abbrev pub dot : (K : Kind) → ℕ → Matrix K → Matrix K → Matrix K
 dot K n l r i j = sum K n (λ p. K .mul (l i p) (r p j))
 
--- what a product adds to an element of its target: the target scaled by beta, plus alpha times the sum
+-- what becomes of an element of a target with beta: the old element scaled (`byBeta`), plus the sum or product weighed (`byAlpha`)
 abbrev pub accumulate : (K : Kind) → (K .Elem → K .Elem) → (K .Elem → K .Elem) → Matrix K → ℕ → ℕ → K .Elem → K .Elem
 accumulate K byBeta byAlpha product i j old = K .add (byBeta old) (byAlpha (product i j))

@@ -14,12 +14,12 @@ pub record Outcome (K : Kind) : Type 0 where
 
 -- a call that is refused leaves the slab as lent; one that is not does its work
 abbrev pub outcome : (K : Kind) → Answer → List (K .Cell) → List (K .Cell) → Outcome K
-outcome K Done work lent = record { answer = answerNumber Done; slab = work }
-outcome K TooLarge work lent = record { answer = answerNumber TooLarge; slab = lent }
-outcome K OutOfBounds work lent = record { answer = answerNumber OutOfBounds; slab = lent }
-outcome K ShapeMismatch work lent = record { answer = answerNumber ShapeMismatch; slab = lent }
-outcome K Overlap work lent = record { answer = answerNumber Overlap; slab = lent }
-outcome K Singular work lent = record { answer = answerNumber Singular; slab = lent }
+outcome K Done work entry = record { answer = answerNumber Done; slab = work }
+outcome K TooLarge work entry = record { answer = answerNumber TooLarge; slab = entry }
+outcome K OutOfBounds work entry = record { answer = answerNumber OutOfBounds; slab = entry }
+outcome K ShapeMismatch work entry = record { answer = answerNumber ShapeMismatch; slab = entry }
+outcome K Overlap work entry = record { answer = answerNumber Overlap; slab = entry }
+outcome K Singular work entry = record { answer = answerNumber Singular; slab = entry }
 
 -- a kernel's contract: its answer and its target's slab at exit are the definition's
 pub record Gives (K : Kind) (o : Outcome K) (r : Answer) (after : List (K .Cell)) : Type 0 where

@@ -1,5 +1,6 @@
 -- Substitution: op(A) X = B (Left) or X op(A) = B (Right) solved in B's place, element after element in solving order.
 -- The unknowns of one line of B (Left: a column, Right: a row) are solved from the last or from the first, each from those before it.
+-- `Solves` (Solves.antt) says what this leaves of each unknown and of every other number.
 use Prim.Native.Nat.{ℕ, zero, suc, _+_, _-_, _*_, _/_, _%_}
 use mathlib.Core.Bool.{Bool, true, false, not, cond, _&&_}
 use mathlib.Core.List.{List}
@@ -77,9 +78,9 @@ firstAt (suc n) f = cond (f zero) zero (suc (firstAt n (λ k. f (suc k))))
 -- ---- one element
 
 -- x − f from − f (from + 1) − .., n terms
-unfoldable pub less : (K : Kind) → K .Elem → (ℕ → K .Elem) → ℕ → ℕ → K .Elem
-less K x f from zero = x
-less K x f from (suc n) = K .sub (less K x f from n) (f (from + n))
+unfoldable pub minusTerms : (K : Kind) → K .Elem → (ℕ → K .Elem) → ℕ → ℕ → K .Elem
+minusTerms K x f from zero = x
+minusTerms K x f from (suc n) = K .sub (minusTerms K x f from n) (f (from + n))
 
 -- divided by the pivot, which is conjugated under ConjTrans; Unit reads no diagonal
 abbrev pub byPivot : (K : Kind) → Diag → Trans → Matrix K → ℕ → K .Elem → K .Elem
@@ -93,7 +94,7 @@ zeroPivot K Unit a q = false
 
 -- ---- the slab
 
-module _ (K : Kind) (side : Side) (uplo : UpLo) (t : Trans) (diag : Diag) (start : K .Elem → K .Elem) (a : Matrix K) (v : View) where
+module _ (K : Kind) (side : Side) (uplo : UpLo) (t : Trans) (diag : Diag) (begin : K .Elem → K .Elem) (a : Matrix K) (v : View) where
   -- the unknown that is solved after k others
   abbrev pub unknownOf : ℕ → ℕ
   unknownOf k = inOrder (lastFirst side uplo t) (orderOf side v) k
@@ -102,7 +103,7 @@ module _ (K : Kind) (side : Side) (uplo : UpLo) (t : Trans) (diag : Diag) (start
   abbrev pub solution : ℕ → ℕ → ℕ → List (K .Cell) → K .Elem
   solution k q l s =
       byPivot K diag t a q
-      (less K (start (unknown K side s v q l)) (λ p. brings K side t a q p (unknown K side s v p l)) (leastSolved (lastFirst side uplo t) (orderOf side v) k) k)
+      (minusTerms K (begin (unknown K side s v q l)) (λ p. brings K side t a q p (unknown K side s v p l)) (leastSolved (lastFirst side uplo t) (orderOf side v) k) k)
 
   unfoldable pub solveOne : ℕ → ℕ → List (K .Cell) → List (K .Cell)
   solveOne k l s = K .put s (unknownAt side v (unknownOf k) l) (solution k (unknownOf k) l s)
@@ -129,9 +130,9 @@ module _ (K : Kind) (side : Side) (uplo : UpLo) (t : Trans) (diag : Diag) (start
 
 -- a call that its check refuses leaves the slab as lent; one that it does not has the outcome of its work
 abbrev pub attempt : (K : Kind) → Answer → Outcome K → List (K .Cell) → Outcome K
-attempt K Done work lent = work
-attempt K TooLarge work lent = record { answer = answerNumber TooLarge; slab = lent }
-attempt K OutOfBounds work lent = record { answer = answerNumber OutOfBounds; slab = lent }
-attempt K ShapeMismatch work lent = record { answer = answerNumber ShapeMismatch; slab = lent }
-attempt K Overlap work lent = record { answer = answerNumber Overlap; slab = lent }
-attempt K Singular work lent = record { answer = answerNumber Singular; slab = lent }
+attempt K Done work entry = work
+attempt K TooLarge work entry = record { answer = answerNumber TooLarge; slab = entry }
+attempt K OutOfBounds work entry = record { answer = answerNumber OutOfBounds; slab = entry }
+attempt K ShapeMismatch work entry = record { answer = answerNumber ShapeMismatch; slab = entry }
+attempt K Overlap work entry = record { answer = answerNumber Overlap; slab = entry }
+attempt K Singular work entry = record { answer = answerNumber Singular; slab = entry }

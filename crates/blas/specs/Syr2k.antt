@@ -1,5 +1,7 @@
 -- syr2k: C ← alpha A Bᵀ + alpha B Aᵀ + beta C (NoTrans) or alpha Aᵀ B + alpha Bᵀ A + beta C (Trans), of which the named triangle is scaled and
--- written. ConjTrans is taken as the unconjugated transpose. alpha multiplies the sum of both products.
+-- written.
+-- The Rust decides: ConjTrans is taken as the unconjugated transpose; one sum from ZERO with two additions an index, which alpha multiplies as a whole;
+-- beta and alpha are as in gemm.
 use Prim.Native.Nat.{ℕ}
 use Rattle.number.specs.Kind.{Kind}
 use Rattle.number.specs.Scaling.{scaled}
@@ -13,7 +15,7 @@ use Rattle.view.specs.declared.Trans.{Trans}
 use Rattle.view.specs.declared.UpLo.{UpLo}
 use Rattle.view.specs.Checks.{opCols, syr2kCheck}
 
--- element (i, j) of A Bᵀ + B Aᵀ, with n terms of each
+-- element (i, j) of A Bᵀ + B Aᵀ (NoTrans) or of Aᵀ B + Bᵀ A, with n terms of each
 abbrev pub syr2kProduct : (K : Kind) → Trans → ℕ → Matrix K → Matrix K → Matrix K
 syr2kProduct K trans n a b i j =
     pairSum K n

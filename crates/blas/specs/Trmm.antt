@@ -1,4 +1,6 @@
 -- trmm: B ← alpha op(A) B (Left) or alpha B op(A) (Right), A triangular; every element is worked out from B as lent.
+-- The Rust decides: the sum and a Unit diagonal are as in trmv; alpha multiplies the sum as a whole, which is written and not added to ZERO; there is no
+-- shortcut for alpha 0.
 use Rattle.number.specs.Kind.{Kind}
 use Rattle.slab.specs.Elem.{Lent}
 use Rattle.slab.specs.Update.{everywhere, update}

@@ -1,4 +1,6 @@
 -- trmv: x ← op(A) x, A triangular; every element is worked out from x as lent.
+-- The Rust decides: there is no alpha; the sum begins at ZERO and runs by rising index over the triangle's elements alone, the others being skipped and not
+-- taken as zeros; a Unit diagonal is unread and counts as ONE, by which x's element is multiplied.
 use Rattle.number.specs.Kind.{Kind}
 use Rattle.slab.specs.Elem.{Lent}
 use Rattle.slab.specs.Update.{everywhere, update}

@@ -1,5 +1,8 @@
 -- trsm: op(A) X = alpha B (Left) or X op(A) = alpha B (Right) solved by substitution, A triangular; B becomes X.
--- Left multiplies a right-hand side by alpha where it is solved, Right all of B first.
+-- The Rust decides: an unknown is worked out as in trsv; alpha multiplies even where it is ONE, Left a right-hand side where it is solved, Right all of B
+-- first; Left solves column after column, Right B's columns in solving order, each in every row. Refusal 5 (NonUnit, B not empty, a zero on the diagonal)
+-- leaves, Left, the first column's rows that come before the first zero pivot in solving order solved and all else as lent; Right, the columns
+-- before that pivot solved and the rest of B times alpha.
 use mathlib.Core.List.{List}
 use Rattle.number.specs.Kind.{Kind}
 use Rattle.slab.specs.Elem.{Lent}

@@ -1,4 +1,7 @@
 -- trsv: op(A) x = b solved by substitution, A triangular; x holds b and becomes the solution.
+-- The Rust decides: there is no alpha; an unknown begins as its right-hand side, loses op(A)'s element times solved unknown by rising index, and is divided by
+-- the pivot; Unit reads no diagonal and does not divide; a pivot is tested in its turn. Refusal 5 (NonUnit, x not empty, a zero on the
+-- diagonal) leaves the unknowns that come before the first zero pivot in solving order solved, and all else as lent.
 use Rattle.number.specs.Kind.{Kind}
 use Rattle.slab.specs.Elem.{Lent}
 use Rattle.blas.specs.Matrix.{matrix}

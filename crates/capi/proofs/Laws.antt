@@ -17,15 +17,16 @@ use Rattle.view.specs.declared.Trans.the-variants.{ConjTrans}
 use Rattle.view.specs.declared.UpLo.the-variants.{Lower}
 use Rattle.view.specs.Judge.{answerNumber}
 use Rattle.blas.specs.Outcome.{Outcome, outcome, Gives}
-use Rattle.capi.specs.Interface.{Returns, flagged, transOf, upLoOf, sideOf, diagOf, viewOf}
+use Rattle.view.specs.Place.{viewOf}
+use Rattle.capi.specs.Interface.{Returns, flagged, transOf, upLoOf, sideOf, diagOf}
 
-module _ (K : Kind) (valid flag : Bool) (o : Outcome K) (refusal : Answer) (lent : List (K .Cell)) (told : flag ≡ valid) where
-  pub called : flag ≡ true → (r : Answer) (n : ℕ) (after : List (K .Cell)) → Gives K o r after → n ≡ answerNumber r → Returns K (flagged K valid o refusal lent) n after
+module _ (K : Kind) (valid flag : Bool) (o : Outcome K) (refusal : Answer) (entry : List (K .Cell)) (told : flag ≡ valid) where
+  pub called : flag ≡ true → (r : Answer) (n : ℕ) (after : List (K .Cell)) → Gives K o r after → n ≡ answerNumber r → Returns K (flagged K valid o refusal entry) n after
   unfolding flagged
   called h r n after g e =
-      subst (λ (b : Bool). Returns K (flagged K b o refusal lent) n after) (sym h ∙ told) (record { answer = e ∙ g .answer; slab = g .slab })
+      subst (λ (b : Bool). Returns K (flagged K b o refusal entry) n after) (sym h ∙ told) (record { answer = e ∙ g .answer; slab = g .slab })
 
-  as-refused : (a : Answer) → Returns K (outcome K a lent lent) (answerNumber a) lent
+  as-refused : (a : Answer) → Returns K (outcome K a entry entry) (answerNumber a) entry
   as-refused Done = record { answer = refl; slab = refl }
   as-refused TooLarge = record { answer = refl; slab = refl }
   as-refused OutOfBounds = record { answer = refl; slab = refl }
@@ -33,11 +34,11 @@ module _ (K : Kind) (valid flag : Bool) (o : Outcome K) (refusal : Answer) (lent
   as-refused Overlap = record { answer = refl; slab = refl }
   as-refused Singular = record { answer = refl; slab = refl }
 
-  pub refused : flag ≡ false → (r : Answer) (n : ℕ) → r ≡ refusal → n ≡ answerNumber r → Returns K (flagged K valid o refusal lent) n lent
+  pub refused : flag ≡ false → (r : Answer) (n : ℕ) → r ≡ refusal → n ≡ answerNumber r → Returns K (flagged K valid o refusal entry) n entry
   unfolding flagged
   refused h r n q e =
-      subst (λ (b : Bool). Returns K (flagged K b o refusal lent) n lent) (sym h ∙ told)
-      (subst (λ (k : ℕ). Returns K (outcome K refusal lent lent) k lent) (sym (e ∙ ap answerNumber q)) (as-refused refusal))
+      subst (λ (b : Bool). Returns K (flagged K b o refusal entry) n entry) (sym h ∙ told)
+      (subst (λ (k : ℕ). Returns K (outcome K refusal entry entry) k entry) (sym (e ∙ ap answerNumber q)) (as-refused refusal))
 
 -- ---- flags
 

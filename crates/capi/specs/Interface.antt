@@ -5,7 +5,6 @@ use mathlib.Core.List.{List, [], _∷_}
 use mathlib.Core.Path.{_≡_}
 use lib.Dec.{ltb}
 use lib.Ieee.{Float}
-use lib.IntN.{ℤ}
 use Rattle.number.specs.Kind.{Kind}
 use Rattle.number.specs.declared.Complex.{Complex}
 use Rattle.view.specs.declared.Answer.{Answer}
@@ -17,7 +16,6 @@ use Rattle.view.specs.declared.Trans.{Trans}
 use Rattle.view.specs.declared.Trans.the-variants.{NoTrans, Trans as Transposed, ConjTrans}
 use Rattle.view.specs.declared.UpLo.{UpLo}
 use Rattle.view.specs.declared.UpLo.the-variants.{Upper, Lower}
-use Rattle.view.specs.declared.View.{View}
 use Rattle.view.specs.Judge.{arg, judge}
 use Rattle.slab.specs.Elem.{Lent}
 use Rattle.blas.specs.Outcome.{Outcome, outcome}
@@ -39,39 +37,34 @@ use Rattle.blas.specs.Trsm.{trsm}
 
 -- ---- flags
 
-abbrev pub isTrans : ℕ → Bool
-isTrans n = ltb n 3
+abbrev pub transInRange : ℕ → Bool
+transInRange n = ltb n 3
 
 unfoldable pub transOf : ℕ → Trans
 transOf zero = NoTrans
 transOf (suc zero) = Transposed
 transOf (suc (suc n)) = ConjTrans
 
-abbrev pub isUpLo : ℕ → Bool
-isUpLo n = ltb n 2
+abbrev pub upLoInRange : ℕ → Bool
+upLoInRange n = ltb n 2
 
 unfoldable pub upLoOf : ℕ → UpLo
 upLoOf zero = Upper
 upLoOf (suc n) = Lower
 
-abbrev pub isSide : ℕ → Bool
-isSide n = ltb n 2
+abbrev pub sideInRange : ℕ → Bool
+sideInRange n = ltb n 2
 
 unfoldable pub sideOf : ℕ → Side
 sideOf zero = Left
 sideOf (suc n) = Right
 
-abbrev pub isDiag : ℕ → Bool
-isDiag n = ltb n 2
+abbrev pub diagInRange : ℕ → Bool
+diagInRange n = ltb n 2
 
 unfoldable pub diagOf : ℕ → Diag
 diagOf zero = NonUnit
 diagOf (suc n) = Unit
-
--- ---- views
-
-abbrev pub viewOf : ℕ → ℕ → ℕ → ℤ → ℤ → View
-viewOf start rows cols rs cs = record { start = start; rows = rows; cols = cols; rs = rs; cs = cs }
 
 -- ---- scalars: a complex number comes as its two parts
 
@@ -87,8 +80,8 @@ pub record Returns (K : Kind) (o : Outcome K) (n : ℕ) (after : List (K .Cell))
 
 -- With every flag in its range a call has the routine's outcome. A flag out of range is a shape mismatch, judged after the refusals before it.
 unfoldable pub flagged : (K : Kind) → Bool → Outcome K → Answer → List (K .Cell) → Outcome K
-flagged K true o refusal lent = o
-flagged K false o refusal lent = outcome K refusal lent lent
+flagged K true o refusal entry = o
+flagged K false o refusal entry = outcome K refusal entry entry
 
 abbrev pub misfit2 : (K : Kind) → Lent K → Lent K → Answer
 misfit2 K a c = judge (arg (a .view) (K .count (a .slab)) ∷ arg (c .view) (K .count (c .slab)) ∷ []) false (c .view)
@@ -100,57 +93,57 @@ misfit3 K a b c =
 -- ---- the routines
 
 abbrev pub gemvC : (K : Kind) → ℕ → K .Elem → Lent K → Lent K → K .Elem → Lent K → Outcome K
-gemvC K trans alpha a x beta y = flagged K (isTrans trans) (gemv K (transOf trans) alpha a x beta y) (misfit3 K a x y) (y .slab)
+gemvC K trans alpha a x beta y = flagged K (transInRange trans) (gemv K (transOf trans) alpha a x beta y) (misfit3 K a x y) (y .slab)
 
 abbrev pub hemvC : (K : Kind) → ℕ → K .Elem → Lent K → Lent K → K .Elem → Lent K → Outcome K
-hemvC K uplo alpha a x beta y = flagged K (isUpLo uplo) (hemv K (upLoOf uplo) alpha a x beta y) (misfit3 K a x y) (y .slab)
+hemvC K uplo alpha a x beta y = flagged K (upLoInRange uplo) (hemv K (upLoOf uplo) alpha a x beta y) (misfit3 K a x y) (y .slab)
 
 abbrev pub gemmC : (K : Kind) → ℕ → ℕ → K .Elem → Lent K → Lent K → K .Elem → Lent K → Outcome K
 gemmC K ta tb alpha a b beta c =
-    flagged K (isTrans ta && isTrans tb) (gemm K (transOf ta) (transOf tb) alpha a b beta c) (misfit3 K a b c) (c .slab)
+    flagged K (transInRange ta && transInRange tb) (gemm K (transOf ta) (transOf tb) alpha a b beta c) (misfit3 K a b c) (c .slab)
 
 abbrev pub symmC : (K : Kind) → ℕ → ℕ → K .Elem → Lent K → Lent K → K .Elem → Lent K → Outcome K
 symmC K side uplo alpha a b beta c =
-    flagged K (isSide side && isUpLo uplo) (symm K (sideOf side) (upLoOf uplo) alpha a b beta c) (misfit3 K a b c) (c .slab)
+    flagged K (sideInRange side && upLoInRange uplo) (symm K (sideOf side) (upLoOf uplo) alpha a b beta c) (misfit3 K a b c) (c .slab)
 
 abbrev pub hemmC : (K : Kind) → ℕ → ℕ → K .Elem → Lent K → Lent K → K .Elem → Lent K → Outcome K
 hemmC K side uplo alpha a b beta c =
-    flagged K (isSide side && isUpLo uplo) (hemm K (sideOf side) (upLoOf uplo) alpha a b beta c) (misfit3 K a b c) (c .slab)
+    flagged K (sideInRange side && upLoInRange uplo) (hemm K (sideOf side) (upLoOf uplo) alpha a b beta c) (misfit3 K a b c) (c .slab)
 
 abbrev pub syrkC : (K : Kind) → ℕ → ℕ → K .Elem → Lent K → K .Elem → Lent K → Outcome K
 syrkC K uplo trans alpha a beta c =
-    flagged K (isUpLo uplo && isTrans trans) (syrk K (upLoOf uplo) (transOf trans) alpha a beta c) (misfit2 K a c) (c .slab)
+    flagged K (upLoInRange uplo && transInRange trans) (syrk K (upLoOf uplo) (transOf trans) alpha a beta c) (misfit2 K a c) (c .slab)
 
 abbrev pub herkC : (K : Kind) → ℕ → ℕ → K .Factor → Lent K → K .Factor → Lent K → Outcome K
 herkC K uplo trans alpha a beta c =
-    flagged K (isUpLo uplo && isTrans trans) (herk K (upLoOf uplo) (transOf trans) alpha a beta c) (misfit2 K a c) (c .slab)
+    flagged K (upLoInRange uplo && transInRange trans) (herk K (upLoOf uplo) (transOf trans) alpha a beta c) (misfit2 K a c) (c .slab)
 
 abbrev pub herC : (K : Kind) → ℕ → K .Factor → Lent K → Lent K → Outcome K
-herC K uplo alpha x a = flagged K (isUpLo uplo) (her K (upLoOf uplo) alpha x a) (misfit2 K x a) (a .slab)
+herC K uplo alpha x a = flagged K (upLoInRange uplo) (her K (upLoOf uplo) alpha x a) (misfit2 K x a) (a .slab)
 
 abbrev pub her2C : (K : Kind) → ℕ → K .Elem → Lent K → Lent K → Lent K → Outcome K
-her2C K uplo alpha x y a = flagged K (isUpLo uplo) (her2 K (upLoOf uplo) alpha x y a) (misfit3 K x y a) (a .slab)
+her2C K uplo alpha x y a = flagged K (upLoInRange uplo) (her2 K (upLoOf uplo) alpha x y a) (misfit3 K x y a) (a .slab)
 
 abbrev pub syr2kC : (K : Kind) → ℕ → ℕ → K .Elem → Lent K → Lent K → K .Elem → Lent K → Outcome K
 syr2kC K uplo trans alpha a b beta c =
-    flagged K (isUpLo uplo && isTrans trans) (syr2k K (upLoOf uplo) (transOf trans) alpha a b beta c) (misfit3 K a b c) (c .slab)
+    flagged K (upLoInRange uplo && transInRange trans) (syr2k K (upLoOf uplo) (transOf trans) alpha a b beta c) (misfit3 K a b c) (c .slab)
 
 abbrev pub her2kC : (K : Kind) → ℕ → ℕ → K .Elem → Lent K → Lent K → K .Factor → Lent K → Outcome K
 her2kC K uplo trans alpha a b beta c =
-    flagged K (isUpLo uplo && isTrans trans) (her2k K (upLoOf uplo) (transOf trans) alpha a b beta c) (misfit3 K a b c) (c .slab)
+    flagged K (upLoInRange uplo && transInRange trans) (her2k K (upLoOf uplo) (transOf trans) alpha a b beta c) (misfit3 K a b c) (c .slab)
 
 abbrev pub trmvC : (K : Kind) → ℕ → ℕ → ℕ → Lent K → Lent K → Outcome K
 trmvC K uplo trans diag a x =
-    flagged K (isUpLo uplo && isTrans trans && isDiag diag) (trmv K (upLoOf uplo) (transOf trans) (diagOf diag) a x) (misfit2 K a x) (x .slab)
+    flagged K (upLoInRange uplo && transInRange trans && diagInRange diag) (trmv K (upLoOf uplo) (transOf trans) (diagOf diag) a x) (misfit2 K a x) (x .slab)
 
 abbrev pub trsvC : (K : Kind) → ℕ → ℕ → ℕ → Lent K → Lent K → Outcome K
 trsvC K uplo trans diag a x =
-    flagged K (isUpLo uplo && isTrans trans && isDiag diag) (trsv K (upLoOf uplo) (transOf trans) (diagOf diag) a x) (misfit2 K a x) (x .slab)
+    flagged K (upLoInRange uplo && transInRange trans && diagInRange diag) (trsv K (upLoOf uplo) (transOf trans) (diagOf diag) a x) (misfit2 K a x) (x .slab)
 
 abbrev pub trmmC : (K : Kind) → ℕ → ℕ → ℕ → ℕ → K .Elem → Lent K → Lent K → Outcome K
 trmmC K side uplo trans diag alpha a b =
-    flagged K (isSide side && (isUpLo uplo && isTrans trans && isDiag diag)) (trmm K (sideOf side) (upLoOf uplo) (transOf trans) (diagOf diag) alpha a b) (misfit2 K a b) (b .slab)
+    flagged K (sideInRange side && (upLoInRange uplo && transInRange trans && diagInRange diag)) (trmm K (sideOf side) (upLoOf uplo) (transOf trans) (diagOf diag) alpha a b) (misfit2 K a b) (b .slab)
 
 abbrev pub trsmC : (K : Kind) → ℕ → ℕ → ℕ → ℕ → K .Elem → Lent K → Lent K → Outcome K
 trsmC K side uplo trans diag alpha a b =
-    flagged K (isSide side && (isUpLo uplo && isTrans trans && isDiag diag)) (trsm K (sideOf side) (upLoOf uplo) (transOf trans) (diagOf diag) alpha a b) (misfit2 K a b) (b .slab)
+    flagged K (sideInRange side && (upLoInRange uplo && transInRange trans && diagInRange diag)) (trsm K (sideOf side) (upLoOf uplo) (transOf trans) (diagOf diag) alpha a b) (misfit2 K a b) (b .slab)

@@ -2,7 +2,8 @@
 
 ghost use Rattle.number.specs.Kind.{complex};
 ghost use Rattle.slab.specs.Elem.{lent};
-ghost use Rattle.capi.specs.Interface.{complexOf, gemmC, gemvC, hemmC, hemvC, her2C, her2kC, herC, herkC, symmC, syr2kC, syrkC, trmmC, trmvC, trsmC, trsvC, viewOf, Returns};
+ghost use Rattle.capi.specs.Interface.{complexOf, gemmC, gemvC, hemmC, hemvC, her2C, her2kC, herC, herkC, symmC, syr2kC, syrkC, trmmC, trmvC, trsmC, trsvC, Returns};
+ghost use Rattle.view.specs.Place.{viewOf};
 use crate::flags::diag_of;
 use crate::flags::is_side_uplo;
 use crate::flags::is_side_uplo_trans_diag;
@@ -14,11 +15,11 @@ use crate::flags::is_uplo_trans_diag;
 use crate::flags::side_of;
 use crate::flags::trans_of;
 use crate::flags::uplo_of;
-use crate::flags::view_of;
 use judge::refuse2;
 use judge::refuse3;
 use number::Complex;
 use view::number;
+use view::view_of;
 
 // y ← alpha op(A) x + beta y
 #[no_mangle]

@@ -1,58 +1,57 @@
-// Flags and views from the numbers that C passes.
+// Flags from the numbers that C passes.
 
 ghost use mathlib.Core.Path.{_≡_};
 ghost use mathlib.Core.Bool.{_&&_};
-ghost use Rattle.capi.specs.Interface.{isTrans, isUpLo, isSide, isDiag, transOf, upLoOf, sideOf, diagOf, viewOf};
+ghost use Rattle.capi.specs.Interface.{transInRange, upLoInRange, sideInRange, diagInRange, transOf, upLoOf, sideOf, diagOf};
 use view::Diag;
 use view::Side;
 use view::Trans;
 use view::UpLo;
-use view::View;
 
 pub fn is_trans(t: u8) -> bool
-    ensures { λ r. ⌜ r ≡ isTrans t ⌝ }
+    ensures { λ r. ⌜ r ≡ transInRange t ⌝ }
 {
     t < 3
 }
 
 pub fn is_uplo(u: u8) -> bool
-    ensures { λ r. ⌜ r ≡ isUpLo u ⌝ }
+    ensures { λ r. ⌜ r ≡ upLoInRange u ⌝ }
 {
     u < 2
 }
 
 fn is_side(s: u8) -> bool
-    ensures { λ r. ⌜ r ≡ isSide s ⌝ }
+    ensures { λ r. ⌜ r ≡ sideInRange s ⌝ }
 {
     s < 2
 }
 
 fn is_diag(d: u8) -> bool
-    ensures { λ r. ⌜ r ≡ isDiag d ⌝ }
+    ensures { λ r. ⌜ r ≡ diagInRange d ⌝ }
 {
     d < 2
 }
 
 pub fn is_trans_trans(s: u8, t: u8) -> bool
-    ensures { λ r. ⌜ r ≡ isTrans s && isTrans t ⌝ }
+    ensures { λ r. ⌜ r ≡ transInRange s && transInRange t ⌝ }
 {
     if is_trans(s) { is_trans(t) } else { false }
 }
 
 pub fn is_side_uplo(s: u8, u: u8) -> bool
-    ensures { λ r. ⌜ r ≡ isSide s && isUpLo u ⌝ }
+    ensures { λ r. ⌜ r ≡ sideInRange s && upLoInRange u ⌝ }
 {
     if is_side(s) { is_uplo(u) } else { false }
 }
 
 pub fn is_uplo_trans(u: u8, t: u8) -> bool
-    ensures { λ r. ⌜ r ≡ isUpLo u && isTrans t ⌝ }
+    ensures { λ r. ⌜ r ≡ upLoInRange u && transInRange t ⌝ }
 {
     if is_uplo(u) { is_trans(t) } else { false }
 }
 
 pub fn is_uplo_trans_diag(u: u8, t: u8, d: u8) -> bool
-    ensures { λ r. ⌜ r ≡ isUpLo u && isTrans t && isDiag d ⌝ }
+    ensures { λ r. ⌜ r ≡ upLoInRange u && transInRange t && diagInRange d ⌝ }
 {
     if is_uplo_trans(u, t) {
         is_diag(d)
@@ -62,7 +61,7 @@ pub fn is_uplo_trans_diag(u: u8, t: u8, d: u8) -> bool
 }
 
 pub fn is_side_uplo_trans_diag(s: u8, u: u8, t: u8, d: u8) -> bool
-    ensures { λ r. ⌜ r ≡ isSide s && (isUpLo u && isTrans t && isDiag d) ⌝ }
+    ensures { λ r. ⌜ r ≡ sideInRange s && (upLoInRange u && transInRange t && diagInRange d) ⌝ }
 {
     if is_side(s) {
         is_uplo_trans_diag(u, t, d)
@@ -105,17 +104,5 @@ pub fn diag_of(d: u8) -> Diag
     match d {
         0 => Diag::NonUnit,
         _ => Diag::Unit,
-    }
-}
-
-pub fn view_of(start: usize, rows: usize, cols: usize, rs: i64, cs: i64) -> View
-    ensures { λ r. ⌜ r ≡ viewOf start rows cols rs cs ⌝ }
-{
-    View {
-        start,
-        rows,
-        cols,
-        rs,
-        cs,
     }
 }

@@ -1,6 +1,9 @@
--- Lemmas that several proofs cite; the kernels' cite Ops.
+-- Lemmas that several proofs cite; the kernels' cite Passes and Ops.
 mod Vectors
 mod Parts
 mod Runs
-mod Passes
+mod Sizes
+mod Views
+pub mod Passes
 pub mod Ops
+mod Ordinary

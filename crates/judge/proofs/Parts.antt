@@ -11,7 +11,7 @@ use Rattle.view.specs.declared.View.{View}
 use Rattle.view.specs.declared.Answer.{Answer}
 use Rattle.view.specs.declared.Answer.the-variants.{Done, TooLarge, OutOfBounds, ShapeMismatch, Overlap, Singular}
 use Rattle.view.specs.Refusals.{tooLarge, outOfBounds}
-use Rattle.view.specs.Steps.{viewOf}
+use Rattle.view.specs.Place.{viewOf}
 use Rattle.view.specs.Judge.{answerNumber, answerOf, arg, judge, lowestOf}
 
 -- ---- a view and its parts: a signed part arrives as its bits

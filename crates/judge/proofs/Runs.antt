@@ -1,129 +1,89 @@
--- What the quick tests give, and the parts of a view that machine integers carry.
+-- Tests in a row, and what the quick tests say of a size and of a stride.
 use mathlib.Core.Path.{_≡_, refl, sym, _∙_, ap, subst}
-use mathlib.Core.Bool.{Bool, true, false, not}
-use Prim.Native.Nat.{ℕ, zero, suc, _-_, _*_, _^_, _≤_, _<_}
-use native.Mathlib.Nat.{mul-zero, zero-mul, mul-one, mul-le-mul}
+use mathlib.Core.Bool.{Bool, true, false, not, _&&_, false≢true}
+use Prim.Native.Nat.{ℕ, zero, suc, _^_, _≤_, _<_}
+use native.Mathlib.Nat.{mul-le-mul}
 use native.Mathlib.Omega.{arith}
-use lib.Dec.{T, ltb, eqb}
+use lib.Dec.{T, ltb, leb, eqb}
 use lib.IntN.{ℤ, pos, negsuc, natAbs}
 use lib.Signed.{nonNeg}
 use mir.Syntax.{w64}
-use mir.Val.{Fits, ofZ}
-use borrow.Author.Tests.{ltb-true, eq-eqb}
-use Rattle.view.specs.declared.View.{View}
-use Rattle.view.specs.Place.{transposedOf}
-use Rattle.view.specs.TransposeLaws.{transposed-accepted}
-use Rattle.view.specs.AnyLaws.{clash}
-use Rattle.view.specs.Refusals.{limit, overlaps, isVector}
-use Rattle.view.specs.Steps.{up, down, meets, Accepted}
-use Rattle.judge.specs.Tests.{Count, Run, Plain, Reaching, Column, Along, standing, lying}
-use Rattle.view.specs.Checks.{vectorOf}
-use Rattle.view.specs.OverlapLaws.{overlaps-is, no-meeting}
-use Rattle.refusal.proofs.Extent.{extent-fits}
-use Rattle.refusal.proofs.Multiples.{each-past}
-use Rattle.judge.proofs.Vectors.{thin-cols, length-is, turned-vector, turned-overlaps}
+use mir.Val.{Fits, toZ, ofZ}
+use mir.Facts.{toZ-ofZ}
+use borrow.Author.Tests.{ltb-true, leb-true, lt-ltb, ne-eqb}
+use Rattle.view.specs.AnyLaws.{and-left, and-right}
+use Rattle.view.specs.Refusals.{limit}
+use Rattle.view.specs.Steps.{up, down}
+use Rattle.judge.specs.Quick.{few, short, leads, reach, Run, reaches}
 
-pub no-test : {A : Type 0} → false ≡ true → A
-no-test {A} h = subst (λ (b : Bool). at b) h tt
-  where
-    at : Bool → Type 0
-    at true = A
-    at false = Unit
+-- ---- tests in a row: the result x of a test is what its definition a says, and was found true or false
 
-pub differs : (m n : ℕ) → not (eqb m n) ≡ true → m ≡ n → ⊥
-differs m n h e = clash h (ap not (eq-eqb m n e))
+pub told : (a x : Bool) → x ≡ a → x ≡ true → a ≡ true
+told a x e t = sym e ∙ t
 
-pub few-is : (n : ℕ) → (n ≡ 0 → ⊥) → ltb (n - 1) limit ≡ true → Count n
-few-is n p h = let q = ltb-true (n - 1) limit h in (omega arith, omega arith)
+pub so : (r a b x : Bool) → x ≡ a → x ≡ true → r ≡ b → r ≡ (a && b)
+so r a b x e t f = f ∙ sym (ap (λ (p : Bool). p && b) (sym e ∙ t))
 
--- ---- a run of elements
+pub no : (a b x : Bool) → x ≡ a → x ≡ false → false ≡ (a && b)
+no a b x e t = sym (ap (λ (p : Bool). p && b) (sym e ∙ t))
 
-pub run-cast : (n : ℕ) (z : ℤ) → Run n z → T (nonNeg z) × Fits w64 (natAbs z)
-run-cast n (pos k) r = (tt, record { fits = omega (arith, r .short) })
-run-cast n (negsuc k) r = absurd (at k (r .forward))
-  where
-    at : (k : ℕ) → suc k ≡ 0 → ⊥
-    at k e = omega arith
+-- each way out of a row, and each test of a row that was passed
+pub ruleset ways = (so, no)
 
-pub run-abs : (n : ℕ) (z : ℤ) → Run n z → natAbs z ≡ up z
-run-abs n (pos k) r = refl
-run-abs n (negsuc k) r = absurd (at k (r .forward))
-  where
-    at : (k : ℕ) → suc k ≡ 0 → ⊥
-    at k e = omega arith
+pub ruleset each = (and-left, and-right)
 
-pub run-le : (n : ℕ) (z : ℤ) → Run n z → (n - 1) * up z ≤ 2 ^ 36
-run-le n z r = mul-le-mul {n₂ = 64} {m₂ = 2 ^ 30} (omega (arith, r .few)) (omega (arith, r .short))
+-- ---- a size
 
-pub accepted : (v : View) (len : ℕ) → Plain v len → Accepted v len
-accepted v len p =
-    let r = p .0 in
-    let q = p .1 in
-    record {
-      rows-le = r .few;
-      cols-le = q .few;
-      fits = extent-fits v len (v .rows - 1) (v .cols - 1) (omega (arith, r .some)) (omega (arith, q .some)) (omega (arith, p .2))
-          (omega (arith, p .2))
-          (omega (arith, ap (λ (d : ℕ). (v .rows - 1) * d) (r .forward), ap (λ (d : ℕ). (v .cols - 1) * d) (q .forward), mul-zero (v .rows - 1), mul-zero (v .cols - 1)));
-    }
+pub record Few (n : ℕ) : Type 0 where
+  pub some : 0 < n
+  pub within : n ≤ limit
 
-pub distinct : (v : View) → Run (v .rows) (v .rs) → Run (v .cols) (v .cs) → meets (v .rows) (up (v .rs)) (v .cols) (up (v .cs)) ≡ false → overlaps v ≡ false
-distinct v p q h =
-    overlaps-is v ∙ (λ i. meets (v .rows) (run-abs (v .rows) (v .rs) p i) (v .cols) (run-abs (v .cols) (v .cs) q i)) ∙ h
-
--- a stride whose bits are not 0 leads on
-pub leads-on : (n : ℕ) (z : ℤ) → Run n z → (ofZ w64 z ≡ 0 → ⊥) → 0 < up z
-leads-on n (pos zero) r h = absurd (h refl)
-leads-on n (pos (suc k)) r h = omega arith
-leads-on n (negsuc k) r h = absurd (at k (r .forward))
-  where
-    at : (k : ℕ) → suc k ≡ 0 → ⊥
-    at k e = omega arith
-
--- n steps of a stride that leads on
-pub no-shorter : (n s : ℕ) → 0 < s → n ≤ n * s
-no-shorter n s h =
-    let k : n * 1 ≤ n * s = mul-le-mul {n₂ = n} {m₂ = s} (omega arith) (omega (arith, h)) in
-    omega (arith, k, mul-one n)
-
--- ---- vectors
-
--- a vector of length n
-of-length : (v : View) (n : ℕ) → isVector v ≡ true → v .rows * v .cols ≡ n → vectorOf v n ≡ true
-of-length v n h e = sym (length-is v n n h e) ∙ eq-eqb n n refl
-
--- what the tests pass as a vector of length n
-pub record Line (v : View) (n len : ℕ) : Type 0 where
-  pub accepted : Accepted v len
-  pub vector : vectorOf v n ≡ true
-
-column-line : (v : View) (n len : ℕ) → Column v n → Reaching (v .start) n (v .rs) len → Line v n len
-column-line v n len k r = record {
-  accepted = record {
-    rows-le = omega (arith, k .rows-are, r .run .few);
-    cols-le = omega (arith, k .one);
-    fits = extent-fits v len (n - 1) 0 (omega (arith, k .rows-are, r .run .some)) (omega (arith, k .one)) (omega (arith, r .below))
-        (omega (arith, r .below, zero-mul (up (v .cs))))
-        (omega (arith, ap (λ (d : ℕ). (n - 1) * d) (r .run .forward), mul-zero (n - 1), zero-mul (down (v .cs))));
-  };
-  vector = of-length v n (thin-cols v (omega (arith, k .one))) (ap (λ (m : ℕ). v .rows * m) (k .one) ∙ mul-one (v .rows) ∙ k .rows-are);
+pub few-is : (n : ℕ) → few n ≡ true → Few n
+unfolding few
+few-is n h = record {
+  some = ltb-true 0 n (and-left (ltb 0 n) (leb n limit) h);
+  within = leb-true n limit (and-right (ltb 0 n) (leb n limit) h);
 }
 
-column-distinct : (v : View) (n : ℕ) → Column v n → Run n (v .rs) → 0 < up (v .rs) → overlaps v ≡ false
-column-distinct v n k r h =
-    overlaps-is v
-    ∙ no-meeting (v .rows) (natAbs (v .rs)) (v .cols) (natAbs (v .cs))
-    (each-past (v .rows) (natAbs (v .rs)) (v .cols) (natAbs (v .cs))
-    (omega (arith, k .one, ap (λ (m : ℕ). (m - 1) * natAbs (v .cs)) (k .one), zero-mul (natAbs (v .cs))))
-    (omega (arith, h, run-abs n (v .rs) r, ap (λ (m : ℕ). (m - 1) * natAbs (v .cs)) (k .one), zero-mul (natAbs (v .cs)))))
+-- ---- a stride, and what the machine reads back from its bits
 
--- a row is a column of the transposed view
-pub line : (v : View) (n : ℕ) (z : ℤ) (len : ℕ) → Along v n z → Reaching (v .start) n z len → Line v n len
-line v n z len (standing k) r = column-line v n len k r
-line v n z len (lying k) r =
-    let w = column-line (transposedOf v) n len k r in
-    record { accepted = transposed-accepted (transposedOf v) len (w .accepted); vector = sym (turned-vector v n) ∙ w .vector }
+pub record Short (z : ℤ) : Type 0 where
+  pub forward : down z ≡ 0
+  pub below : up z < 2 ^ 30
+  pub size : natAbs z ≡ up z
+  pub back : toZ w64 (ofZ w64 z) ≡ z
+  pub cast : T (nonNeg (toZ w64 (ofZ w64 z))) × Fits w64 (natAbs (toZ w64 (ofZ w64 z)))
 
-pub line-distinct : (v : View) (n : ℕ) (z : ℤ) → Along v n z → Run n z → 0 < up z → overlaps v ≡ false
-line-distinct v n z (standing k) r h = column-distinct v n k r h
-line-distinct v n z (lying k) r h = sym (turned-overlaps v) ∙ column-distinct (transposedOf v) n k r h
+pub short-is : (z : ℤ) → short z ≡ true → Short z
+unfolding short
+short-is (pos n) h =
+    let l = ltb-true n (2 ^ 30) h in
+    let e = toZ-ofZ {w = w64} {z = pos n} (record { sfits = omega arith }) in
+    record {
+      forward = refl;
+      below = l;
+      size = refl;
+      back = e;
+      cast = subst (λ (z : ℤ). T (nonNeg z) × Fits w64 (natAbs z)) (sym e) (tt, record { fits = omega arith });
+    }
+short-is (negsuc n) h = absurd (false≢true h)
+
+-- a stride that is not 0 leads on
+pub leads-is : (z : ℤ) → short z ≡ true → not (eqb (ofZ w64 z) 0) ≡ leads z
+unfolding short
+leads-is (pos zero) h = refl
+leads-is (pos (suc n)) h = ap not (ne-eqb (suc n) 0 (none n)) ∙ sym (lt-ltb 0 (suc n) (omega arith))
+  where
+    none : (n : ℕ) → suc n ≡ 0 → ⊥
+    none n e = omega arith
+leads-is (negsuc n) h = absurd (false≢true h)
+
+-- ---- runs of elements
+
+pub reach-le : (n : ℕ) (z : ℤ) → Run n z → reach n z ≤ 2 ^ 36
+reach-le n z r =
+    mul-le-mul {n₂ = 64} {m₂ = 2 ^ 30} (omega (arith, few-is n (r .0) .within)) (omega (arith, short-is z (r .1) .below))
+
+pub reaches-short : (start n : ℕ) (z : ℤ) (len : ℕ) → reaches start n z len ≡ true → short z ≡ true
+unfolding reaches
+reaches-short start n z len h = search each

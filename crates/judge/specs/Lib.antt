@@ -1,2 +1,2 @@
 -- What the contracts of the quick tests cite; the checks cite `view`.
-pub mod Tests
+pub mod Quick

@@ -1,11 +1,13 @@
 // The check of each routine: the answer that the refusals 1 to 4 give, or Done. Arguments in the Rust's order, each view with
-// the length of its slab in elements; flags that no shape rule looks at are left out. A call that passed the quick tests is done.
+// the length of its slab in elements; flags that no shape rule looks at are left out. Each takes what the quick test of the call
+// answered: a call that passed it is done.
 ghost use mathlib.Core.Path.{_≡_};
 ghost use mathlib.Core.Bool.{_||_, true, false};
 ghost use mathlib.Core.List.{[], _∷_};
-ghost use Rattle.view.specs.Steps.{viewOf};
 ghost use Rattle.view.specs.Judge.{answerNumber, answerOf, arg, judge, lowestOf};
+ghost use Rattle.view.specs.Place.{viewOf, opViewOf};
 ghost use Rattle.view.specs.Checks as specs;
+ghost use Rattle.judge.specs.Quick.{quickGemv, quickHemv, quickHer, quickHer2, quickTrmv, quickGemm, quickSymm, quickSyrk, quickSyr2k, quickTrmm};
 use crate::shapes;
 use refusal::out_of_bounds;
 use refusal::overlap;
@@ -15,6 +17,7 @@ use view::Side;
 use view::Trans;
 use view::View;
 use view::number;
+use view::view_of;
 
 // Whether one of three tests passed.
 fn one_of(p: bool, q: bool, r: bool) -> bool
@@ -57,18 +60,6 @@ fn judged(a: View, la: usize, b: View, lb: usize, c: View, lc: usize, shapes: bo
         out_of_bounds(c, lc),
     );
     lowest(large, out, !shapes, c)
-}
-
-fn view_of(start: usize, rows: usize, cols: usize, rs: i64, cs: i64) -> View
-    ensures { λ r. ⌜ r ≡ viewOf start rows cols rs cs ⌝ }
-{
-    View {
-        start,
-        rows,
-        cols,
-        rs,
-        cs,
-    }
 }
 
 // Its number. Views come in parts: whoever calls then need not store them.
@@ -246,7 +237,7 @@ pub fn check_gemv(
     y: View,
     ly: usize,
 ) -> Answer
-    requires { ⌜ (quick ≡ true → specs.gemvCheck t a la x lx y ly ≡ Answer.Done) ⌝ }
+    requires { ⌜ quick ≡ quickGemv (opViewOf t a) la x lx y ly ⌝ }
     ensures { λ r. ⌜ r ≡ specs.gemvCheck t a la x lx y ly ⌝ }
 {
     if quick {
@@ -257,7 +248,7 @@ pub fn check_gemv(
 }
 
 pub fn check_hemv(quick: bool, a: View, la: usize, x: View, lx: usize, y: View, ly: usize) -> Answer
-    requires { ⌜ (quick ≡ true → specs.hemvCheck a la x lx y ly ≡ Answer.Done) ⌝ }
+    requires { ⌜ quick ≡ quickHemv a la x lx y ly ⌝ }
     ensures { λ r. ⌜ r ≡ specs.hemvCheck a la x lx y ly ⌝ }
 {
     if quick {
@@ -268,7 +259,7 @@ pub fn check_hemv(quick: bool, a: View, la: usize, x: View, lx: usize, y: View, 
 }
 
 pub fn check_her(quick: bool, x: View, lx: usize, a: View, la: usize) -> Answer
-    requires { ⌜ (quick ≡ true → specs.herCheck x lx a la ≡ Answer.Done) ⌝ }
+    requires { ⌜ quick ≡ quickHer x lx a la ⌝ }
     ensures { λ r. ⌜ r ≡ specs.herCheck x lx a la ⌝ }
 {
     if quick {
@@ -279,7 +270,7 @@ pub fn check_her(quick: bool, x: View, lx: usize, a: View, la: usize) -> Answer
 }
 
 pub fn check_her2(quick: bool, x: View, lx: usize, y: View, ly: usize, a: View, la: usize) -> Answer
-    requires { ⌜ (quick ≡ true → specs.her2Check x lx y ly a la ≡ Answer.Done) ⌝ }
+    requires { ⌜ quick ≡ quickHer2 x lx y ly a la ⌝ }
     ensures { λ r. ⌜ r ≡ specs.her2Check x lx y ly a la ⌝ }
 {
     if quick {
@@ -290,7 +281,7 @@ pub fn check_her2(quick: bool, x: View, lx: usize, y: View, ly: usize, a: View, 
 }
 
 pub fn check_trmv(quick: bool, a: View, la: usize, x: View, lx: usize) -> Answer
-    requires { ⌜ (quick ≡ true → specs.trmvCheck a la x lx ≡ Answer.Done) ⌝ }
+    requires { ⌜ quick ≡ quickTrmv a la x lx ⌝ }
     ensures { λ r. ⌜ r ≡ specs.trmvCheck a la x lx ⌝ }
 {
     if quick {
@@ -301,7 +292,7 @@ pub fn check_trmv(quick: bool, a: View, la: usize, x: View, lx: usize) -> Answer
 }
 
 pub fn check_trsv(quick: bool, a: View, la: usize, x: View, lx: usize) -> Answer
-    requires { ⌜ (quick ≡ true → specs.trsvCheck a la x lx ≡ Answer.Done) ⌝ }
+    requires { ⌜ quick ≡ quickTrmv a la x lx ⌝ }
     ensures { λ r. ⌜ r ≡ specs.trsvCheck a la x lx ⌝ }
 {
     check_trmv(quick, a, la, x, lx)
@@ -318,7 +309,7 @@ pub fn check_gemm(
     c: View,
     lc: usize,
 ) -> Answer
-    requires { ⌜ (quick ≡ true → specs.gemmCheck ta tb a la b lb c lc ≡ Answer.Done) ⌝ }
+    requires { ⌜ quick ≡ quickGemm (opViewOf ta a) la (opViewOf tb b) lb c lc ⌝ }
     ensures { λ r. ⌜ r ≡ specs.gemmCheck ta tb a la b lb c lc ⌝ }
 {
     if quick {
@@ -338,7 +329,7 @@ pub fn check_symm(
     c: View,
     lc: usize,
 ) -> Answer
-    requires { ⌜ (quick ≡ true → specs.symmCheck side a la b lb c lc ≡ Answer.Done) ⌝ }
+    requires { ⌜ quick ≡ quickSymm side a la b lb c lc ⌝ }
     ensures { λ r. ⌜ r ≡ specs.symmCheck side a la b lb c lc ⌝ }
 {
     if quick {
@@ -358,14 +349,14 @@ pub fn check_hemm(
     c: View,
     lc: usize,
 ) -> Answer
-    requires { ⌜ (quick ≡ true → specs.hemmCheck side a la b lb c lc ≡ Answer.Done) ⌝ }
+    requires { ⌜ quick ≡ quickSymm side a la b lb c lc ⌝ }
     ensures { λ r. ⌜ r ≡ specs.hemmCheck side a la b lb c lc ⌝ }
 {
     check_symm(quick, side, a, la, b, lb, c, lc)
 }
 
 pub fn check_syrk(quick: bool, t: Trans, a: View, la: usize, c: View, lc: usize) -> Answer
-    requires { ⌜ (quick ≡ true → specs.syrkCheck t a la c lc ≡ Answer.Done) ⌝ }
+    requires { ⌜ quick ≡ quickSyrk t a la c lc ⌝ }
     ensures { λ r. ⌜ r ≡ specs.syrkCheck t a la c lc ⌝ }
 {
     if quick {
@@ -376,7 +367,7 @@ pub fn check_syrk(quick: bool, t: Trans, a: View, la: usize, c: View, lc: usize)
 }
 
 pub fn check_herk(quick: bool, t: Trans, a: View, la: usize, c: View, lc: usize) -> Answer
-    requires { ⌜ (quick ≡ true → specs.herkCheck t a la c lc ≡ Answer.Done) ⌝ }
+    requires { ⌜ quick ≡ quickSyrk t a la c lc ⌝ }
     ensures { λ r. ⌜ r ≡ specs.herkCheck t a la c lc ⌝ }
 {
     check_syrk(quick, t, a, la, c, lc)
@@ -392,7 +383,7 @@ pub fn check_syr2k(
     c: View,
     lc: usize,
 ) -> Answer
-    requires { ⌜ (quick ≡ true → specs.syr2kCheck t a la b lb c lc ≡ Answer.Done) ⌝ }
+    requires { ⌜ quick ≡ quickSyr2k t a la b lb c lc ⌝ }
     ensures { λ r. ⌜ r ≡ specs.syr2kCheck t a la b lb c lc ⌝ }
 {
     if quick {
@@ -412,14 +403,14 @@ pub fn check_her2k(
     c: View,
     lc: usize,
 ) -> Answer
-    requires { ⌜ (quick ≡ true → specs.her2kCheck t a la b lb c lc ≡ Answer.Done) ⌝ }
+    requires { ⌜ quick ≡ quickSyr2k t a la b lb c lc ⌝ }
     ensures { λ r. ⌜ r ≡ specs.her2kCheck t a la b lb c lc ⌝ }
 {
     check_syr2k(quick, t, a, la, b, lb, c, lc)
 }
 
 pub fn check_trmm(quick: bool, side: Side, a: View, la: usize, b: View, lb: usize) -> Answer
-    requires { ⌜ (quick ≡ true → specs.trmmCheck side a la b lb ≡ Answer.Done) ⌝ }
+    requires { ⌜ quick ≡ quickTrmm side a la b lb ⌝ }
     ensures { λ r. ⌜ r ≡ specs.trmmCheck side a la b lb ⌝ }
 {
     if quick {
@@ -430,7 +421,7 @@ pub fn check_trmm(quick: bool, side: Side, a: View, la: usize, b: View, lb: usiz
 }
 
 pub fn check_trsm(quick: bool, side: Side, a: View, la: usize, b: View, lb: usize) -> Answer
-    requires { ⌜ (quick ≡ true → specs.trsmCheck side a la b lb ≡ Answer.Done) ⌝ }
+    requires { ⌜ quick ≡ quickTrmm side a la b lb ⌝ }
     ensures { λ r. ⌜ r ≡ specs.trsmCheck side a la b lb ⌝ }
 {
     check_trmm(quick, side, a, la, b, lb)

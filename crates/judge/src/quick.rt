@@ -1,36 +1,31 @@
 // Quick tests that pass calls as most are: views of at least one element, with small starts and with strides that are small and not negative.
-// A call that they do not pass is judged in full.
+// What each answers is a definition (specs/Quick). A call that one passes is not refused; one that they do not pass is judged in full.
 ghost use mathlib.Core.Path.{_≡_};
-ghost use mathlib.Core.Bool.{true, false};
-ghost use Prim.Native.Nat.{_+_, _-_, _*_, _<_, _^_};
-ghost use Rattle.view.specs.Refusals.{overlaps};
-ghost use Rattle.view.specs.Steps.{up, down, meets, Accepted};
-ghost use Rattle.judge.specs.Tests.{Count, Run, Plain, Reaching, Along};
-ghost use Rattle.view.specs.Checks as specs;
+ghost use mathlib.Core.Bool.{true};
+ghost use Rattle.judge.specs.Quick as specs;
 use crate::shapes;
 use refusal::LIMIT;
-use view::Answer;
 use view::Side;
 use view::Trans;
 use view::View;
 
 // Whether n is at least 1 and within the limit.
 fn few(n: usize) -> bool
-    ensures { λ r. ⌜ (r ≡ true → Count n) ⌝ }
+    ensures { λ r. ⌜ r ≡ specs.few n ⌝ }
 {
     if n == 0 { false } else { n - 1 < LIMIT }
 }
 
 // Whether a view has a few rows and columns.
 fn small(v: View) -> bool
-    ensures { λ r. ⌜ (r ≡ true → Count (v .rows) × Count (v .cols)) ⌝ }
+    ensures { λ r. ⌜ r ≡ specs.small v ⌝ }
 {
     if few(v.rows) { few(v.cols) } else { false }
 }
 
 // Whether a stride is not negative and below 2 ^ 30.
 fn short(z: i64) -> bool
-    ensures { λ r. ⌜ (r ≡ true → (down z ≡ 0) × (up z < 2 ^ 30)) ⌝ }
+    ensures { λ r. ⌜ r ≡ specs.short z ⌝ }
 {
     if z < 0 {
         false
@@ -41,31 +36,31 @@ fn short(z: i64) -> bool
 
 // Whether a start is below 2 ^ 30.
 fn near(start: usize) -> bool
-    ensures { λ r. ⌜ (r ≡ true → start < 2 ^ 30) ⌝ }
+    ensures { λ r. ⌜ r ≡ specs.near start ⌝ }
 {
     start < 0x4000_0000
 }
 
 // From the first of n elements to the last.
 fn reach(n: usize, z: i64) -> usize
-    requires { ⌜ Run n z ⌝ }
-    ensures { λ r. ⌜ r ≡ (n - 1) * up z ⌝ }
+    requires { ⌜ specs.Run n z ⌝ }
+    ensures { λ r. ⌜ r ≡ specs.reach n z ⌝ }
 {
     (n - 1) * z as usize
 }
 
 // Whether the last element, too, is below the slab's end.
 fn ends(start: usize, rows: usize, cols: usize, rs: i64, cs: i64, len: usize) -> bool
-    requires { ⌜ (start < 2 ^ 30) × Run rows rs × Run cols cs ⌝ }
-    ensures { λ r. ⌜ (r ≡ true → start + ((rows - 1) * up rs + (cols - 1) * up cs) < len) ⌝ }
+    requires { ⌜ (specs.near start ≡ true) × specs.Run rows rs × specs.Run cols cs ⌝ }
+    ensures { λ r. ⌜ r ≡ specs.ends start rows cols rs cs len ⌝ }
 {
     start + (reach(rows, rs) + reach(cols, cs)) < len
 }
 
 // Whether a matrix is in bounds.
 fn plain(v: View, len: usize) -> bool
-    requires { ⌜ Count (v .rows) × Count (v .cols) ⌝ }
-    ensures { λ r. ⌜ (r ≡ true → Plain v len) ⌝ }
+    requires { ⌜ specs.small v ≡ true ⌝ }
+    ensures { λ r. ⌜ r ≡ specs.plain v len ⌝ }
 {
     if near(v.start) {
         if short(v.rs) {
@@ -79,8 +74,8 @@ fn plain(v: View, len: usize) -> bool
 
 // Whether each row is past the one before it, or each column, neither standing still.
 fn apart(rows: usize, cols: usize, rs: i64, cs: i64) -> bool
-    requires { ⌜ Run rows rs × Run cols cs ⌝ }
-    ensures { λ r. ⌜ (r ≡ true → meets rows (up rs) cols (up cs) ≡ false) ⌝ }
+    requires { ⌜ specs.Run rows rs × specs.Run cols cs ⌝ }
+    ensures { λ r. ⌜ r ≡ specs.apart rows cols rs cs ⌝ }
 {
     let across = reach(cols, cs);
     if across < rs as usize {
@@ -95,8 +90,8 @@ fn apart(rows: usize, cols: usize, rs: i64, cs: i64) -> bool
 
 // Whether a matrix that is written is in bounds, each element on a place of its own.
 fn written(v: View, len: usize) -> bool
-    requires { ⌜ Count (v .rows) × Count (v .cols) ⌝ }
-    ensures { λ r. ⌜ (r ≡ true → Plain v len × (overlaps v ≡ false)) ⌝ }
+    requires { ⌜ specs.small v ≡ true ⌝ }
+    ensures { λ r. ⌜ r ≡ specs.written v len ⌝ }
 {
     if plain(v, len) {
         apart(v.rows, v.cols, v.rs, v.cs)
@@ -107,7 +102,7 @@ fn written(v: View, len: usize) -> bool
 
 // The stride along a vector of length n; -1 for what is none.
 fn stride_of(v: View, n: usize) -> i64
-    ensures { λ z. ⌜ (down z ≡ 0 → Along v n z) ⌝ }
+    ensures { λ z. ⌜ z ≡ specs.strideOf v n ⌝ }
 {
     if v.cols == 1 {
         if v.rows == n {
@@ -125,8 +120,8 @@ fn stride_of(v: View, n: usize) -> i64
 
 // Whether n elements from a start, by a stride, are in bounds.
 fn reaches(start: usize, n: usize, z: i64, len: usize) -> bool
-    requires { ⌜ Count n ⌝ }
-    ensures { λ r. ⌜ (r ≡ true → Reaching start n z len) ⌝ }
+    requires { ⌜ specs.few n ≡ true ⌝ }
+    ensures { λ r. ⌜ r ≡ specs.reaches start n z len ⌝ }
 {
     if near(start) {
         if short(z) {
@@ -138,16 +133,16 @@ fn reaches(start: usize, n: usize, z: i64, len: usize) -> bool
 
 // Whether a vector of length n is in bounds.
 fn vector(v: View, n: usize, len: usize) -> bool
-    requires { ⌜ Count n ⌝ }
-    ensures { λ r. ⌜ (r ≡ true → Accepted v len × (specs.vectorOf v n ≡ true)) ⌝ }
+    requires { ⌜ specs.few n ≡ true ⌝ }
+    ensures { λ r. ⌜ r ≡ specs.plainVector v n len ⌝ }
 {
     reaches(v.start, n, stride_of(v, n), len)
 }
 
 // The same of a vector that is written, each element on a place of its own.
 fn vector_target(v: View, n: usize, len: usize) -> bool
-    requires { ⌜ Count n ⌝ }
-    ensures { λ r. ⌜ (r ≡ true → Accepted v len × (specs.vectorOf v n ≡ true) × (overlaps v ≡ false)) ⌝ }
+    requires { ⌜ specs.few n ≡ true ⌝ }
+    ensures { λ r. ⌜ r ≡ specs.writtenVector v n len ⌝ }
 {
     let z = stride_of(v, n);
     if reaches(v.start, n, z, len) {
@@ -159,14 +154,14 @@ fn vector_target(v: View, n: usize, len: usize) -> bool
 
 // Whether a matrix is square.
 fn square(a: View) -> bool
-    ensures { λ r. ⌜ (r ≡ true → Count (a .rows) × (a .cols ≡ a .rows)) ⌝ }
+    ensures { λ r. ⌜ r ≡ specs.square a ⌝ }
 {
     if few(a.rows) { a.cols == a.rows } else { false }
 }
 
 // gemv, of the view of op(A).
 pub fn quick_gemv(a: View, la: usize, x: View, lx: usize, y: View, ly: usize) -> bool
-    ensures { λ r. ⌜ (r ≡ true → specs.gemvCheck Trans.NoTrans a la x lx y ly ≡ Answer.Done) ⌝ }
+    ensures { λ r. ⌜ r ≡ specs.quickGemv a la x lx y ly ⌝ }
 {
     if small(a) {
         if plain(a, la) {
@@ -179,7 +174,7 @@ pub fn quick_gemv(a: View, la: usize, x: View, lx: usize, y: View, ly: usize) ->
 }
 
 pub fn quick_hemv(a: View, la: usize, x: View, lx: usize, y: View, ly: usize) -> bool
-    ensures { λ r. ⌜ (r ≡ true → specs.hemvCheck a la x lx y ly ≡ Answer.Done) ⌝ }
+    ensures { λ r. ⌜ r ≡ specs.quickHemv a la x lx y ly ⌝ }
 {
     if square(a) {
         if plain(a, la) {
@@ -192,7 +187,7 @@ pub fn quick_hemv(a: View, la: usize, x: View, lx: usize, y: View, ly: usize) ->
 }
 
 pub fn quick_her(x: View, lx: usize, a: View, la: usize) -> bool
-    ensures { λ r. ⌜ (r ≡ true → specs.herCheck x lx a la ≡ Answer.Done) ⌝ }
+    ensures { λ r. ⌜ r ≡ specs.quickHer x lx a la ⌝ }
 {
     if square(a) {
         if vector(x, a.rows, lx) {
@@ -203,7 +198,7 @@ pub fn quick_her(x: View, lx: usize, a: View, la: usize) -> bool
 }
 
 pub fn quick_her2(x: View, lx: usize, y: View, ly: usize, a: View, la: usize) -> bool
-    ensures { λ r. ⌜ (r ≡ true → specs.her2Check x lx y ly a la ≡ Answer.Done) ⌝ }
+    ensures { λ r. ⌜ r ≡ specs.quickHer2 x lx y ly a la ⌝ }
 {
     if square(a) {
         if vector(x, a.rows, lx) {
@@ -217,7 +212,7 @@ pub fn quick_her2(x: View, lx: usize, y: View, ly: usize, a: View, la: usize) ->
 
 // trmv and trsv.
 pub fn quick_trmv(a: View, la: usize, x: View, lx: usize) -> bool
-    ensures { λ r. ⌜ (r ≡ true → specs.trmvCheck a la x lx ≡ Answer.Done) ⌝ }
+    ensures { λ r. ⌜ r ≡ specs.quickTrmv a la x lx ⌝ }
 {
     if square(a) {
         if plain(a, la) {
@@ -229,7 +224,7 @@ pub fn quick_trmv(a: View, la: usize, x: View, lx: usize) -> bool
 
 // gemm, of the views of op(A) and op(B).
 pub fn quick_gemm(a: View, la: usize, b: View, lb: usize, c: View, lc: usize) -> bool
-    ensures { λ r. ⌜ (r ≡ true → specs.gemmCheck Trans.NoTrans Trans.NoTrans a la b lb c lc ≡ Answer.Done) ⌝ }
+    ensures { λ r. ⌜ r ≡ specs.quickGemm a la b lb c lc ⌝ }
 {
     if small(c) {
         if few(a.cols) {
@@ -247,7 +242,7 @@ pub fn quick_gemm(a: View, la: usize, b: View, lb: usize, c: View, lc: usize) ->
 
 // symm and hemm.
 pub fn quick_symm(side: Side, a: View, la: usize, b: View, lb: usize, c: View, lc: usize) -> bool
-    ensures { λ r. ⌜ (r ≡ true → specs.symmCheck side a la b lb c lc ≡ Answer.Done) ⌝ }
+    ensures { λ r. ⌜ r ≡ specs.quickSymm side a la b lb c lc ⌝ }
 {
     if shapes::symm(side, a, b, c) {
         if small(c) {
@@ -263,7 +258,7 @@ pub fn quick_symm(side: Side, a: View, la: usize, b: View, lb: usize, c: View, l
 
 // syrk and herk.
 pub fn quick_syrk(t: Trans, a: View, la: usize, c: View, lc: usize) -> bool
-    ensures { λ r. ⌜ (r ≡ true → specs.syrkCheck t a la c lc ≡ Answer.Done) ⌝ }
+    ensures { λ r. ⌜ r ≡ specs.quickSyrk t a la c lc ⌝ }
 {
     if small(a) {
         if shapes::syrk(t, a, c) {
@@ -277,7 +272,7 @@ pub fn quick_syrk(t: Trans, a: View, la: usize, c: View, lc: usize) -> bool
 
 // syr2k and her2k.
 pub fn quick_syr2k(t: Trans, a: View, la: usize, b: View, lb: usize, c: View, lc: usize) -> bool
-    ensures { λ r. ⌜ (r ≡ true → specs.syr2kCheck t a la b lb c lc ≡ Answer.Done) ⌝ }
+    ensures { λ r. ⌜ r ≡ specs.quickSyr2k t a la b lb c lc ⌝ }
 {
     if small(a) {
         if shapes::syr2k(t, a, b, c) {
@@ -293,7 +288,7 @@ pub fn quick_syr2k(t: Trans, a: View, la: usize, b: View, lb: usize, c: View, lc
 
 // trmm and trsm.
 pub fn quick_trmm(side: Side, a: View, la: usize, b: View, lb: usize) -> bool
-    ensures { λ r. ⌜ (r ≡ true → specs.trmmCheck side a la b lb ≡ Answer.Done) ⌝ }
+    ensures { λ r. ⌜ r ≡ specs.quickTrmm side a la b lb ⌝ }
 {
     if small(b) {
         if shapes::trmm(side, a, b) {

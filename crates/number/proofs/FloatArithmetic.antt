@@ -12,7 +12,7 @@ use lib.Ieee.{Float, nan, inf, fin, Format, prec, emax, low, up, down, unlike, r
 use lib.Ieee.Exact.{HasValue, round-exact}
 use lib.Ieee.Fits.{up-pos, down-pos}
 use lib.Ieee.Scale.{round-same}
-use Rattle.number.proofs.Same.{Frac, plus, less, SameFinite, SameFloat, both-nan, both-inf, both-fin, same-refl, same-sym, same-trans, same-of-eq, frac-sym, frac-trans, frac→magnitudes, frac→signs}
+use Rattle.number.proofs.Same.{Frac, plusPart, minusPart, SameFinite, SameFloat, both-nan, both-inf, both-fin, same-refl, same-sym, same-trans, same-of-eq, frac-sym, frac-trans, frac→magnitudes, frac→signs}
 
 -- ---- two numbers by their difference
 
@@ -90,7 +90,7 @@ diff-same f p l c p' l' c' C C' = go (gap p l) (gap p' l')
 abbrev pub Value : Float → ℕ → ℕ → ℕ → Type 0
 Value nan p l c = ⊥
 Value (inf s) p l c = ⊥
-Value (fin s m e) p l c = Frac (plus s (m * up e)) (less s (m * up e)) (down e) p l c
+Value (fin s m e) p l c = Frac (plusPart s (m * up e)) (minusPart s (m * up e)) (down e) p l c
 
 pub value-same : (x y : Float) (p l c : ℕ) → 0 < c → Value x p l c → Value y p l c → SameFloat x y
 value-same nan y p l c C h k = absurd h
@@ -100,14 +100,14 @@ value-same (fin s m e) (inf t) p l c C h k = absurd k
 value-same (fin s m e) (fin t n d) p l c C h k =
     let a = m * up e in
     let b = n * up d in
-    both-fin s m e t n d (frac-trans (plus s a) (less s a) (down e) p l c (plus t b) (less t b) (down d) C h (frac-sym (plus t b) (less t b) (down d) p l c k))
+    both-fin s m e t n d (frac-trans (plusPart s a) (minusPart s a) (down e) p l c (plusPart t b) (minusPart t b) (down d) C h (frac-sym (plusPart t b) (minusPart t b) (down d) p l c k))
 
-pub value-of : (x : Float) (s : Bool) (a c : ℕ) → HasValue x s a c → Value x (plus s a) (less s a) c
+pub value-of : (x : Float) (s : Bool) (a c : ℕ) → HasValue x s a c → Value x (plusPart s a) (minusPart s a) c
 value-of nan s a c h = absurd h
 value-of (inf t) s a c h = absurd h
-value-of (fin t m e) s a c h = subst (λ (z : Bool). Value (fin z m e) (plus s a) (less s a) c) (sym (h .0)) (go s (m * up e) (down e) (h .1))
+value-of (fin t m e) s a c h = subst (λ (z : Bool). Value (fin z m e) (plusPart s a) (minusPart s a) c) (sym (h .0)) (go s (m * up e) (down e) (h .1))
   where
-    go : (s : Bool) (b d : ℕ) → b * c ≡ a * d → Frac (plus s b) (less s b) d (plus s a) (less s a) c
+    go : (s : Bool) (b d : ℕ) → b * c ≡ a * d → Frac (plusPart s b) (minusPart s b) d (plusPart s a) (minusPart s a) c
     go false b d k = omega arith
     go true b d k = omega arith
 
@@ -128,13 +128,13 @@ round-minus : (f : Format) (p l k c : ℕ) → 0 < c → l ≡ p + k → SameFlo
 round-minus f p l zero c C h = same-trans (zero-sign f c C) (round-plus f p l 0 c (omega arith))
 round-minus f p l (suc k) c C h = same-of-eq (sym (diff-under f p k c) ∙ ap (λ (z : ℕ). diff f p z c) (sym h))
 
-pub round-diff : (f : Format) (s : Bool) (a c : ℕ) → 0 < c → SameFloat (round f s a c) (diff f (plus s a) (less s a) c)
+pub round-diff : (f : Format) (s : Bool) (a c : ℕ) → 0 < c → SameFloat (round f s a c) (diff f (plusPart s a) (minusPart s a) c)
 round-diff f false a c C = round-plus f a 0 a c (omega arith)
 round-diff f true a c C = round-minus f 0 a a c C (omega arith)
 
 -- ---- the sum
 
-sum-diff : (f : Format) (s : Bool) (a : ℕ) (t : Bool) (b c : ℕ) → 0 < c → SameFloat (sum f s a t b c) (diff f (plus s a + plus t b) (less s a + less t b) c)
+sum-diff : (f : Format) (s : Bool) (a : ℕ) (t : Bool) (b c : ℕ) → 0 < c → SameFloat (sum f s a t b c) (diff f (plusPart s a + plusPart t b) (minusPart s a + minusPart t b) c)
 unfolding sum
 sum-diff f false a false b c C = round-plus f (a + b) (0 + 0) (a + b) c (omega arith)
 sum-diff f true a true b c C = round-minus f (0 + 0) (a + b) (a + b) c C (omega arith)
@@ -151,11 +151,11 @@ sum-diff f true a false b c C = go (ltb a b) (ltb→lt a b) (nltb→le a b) (ltb
     go false h k true h' k' = round-minus f (0 + b) (a + 0) (a - b) c C (omega (arith, k tt))
     go false h k false h' k' = round-plus f (0 + b) (a + 0) (a - b) c (omega (arith, k tt, k' tt))
 
-plus-mul : (s : Bool) (a c : ℕ) → plus s (a * c) ≡ plus s a * c
+plus-mul : (s : Bool) (a c : ℕ) → plusPart s (a * c) ≡ plusPart s a * c
 plus-mul false a c = refl
 plus-mul true a c = omega arith
 
-less-mul : (s : Bool) (a c : ℕ) → less s (a * c) ≡ less s a * c
+less-mul : (s : Bool) (a c : ℕ) → minusPart s (a * c) ≡ minusPart s a * c
 less-mul false a c = omega arith
 less-mul true a c = refl
 
@@ -169,7 +169,7 @@ unfolding add
 add-opens f s m e t n d = refl
 
 pub add-diff : (f : Format) (s : Bool) (m : ℕ) (e : ℤ) (t : Bool) (n : ℕ) (d : ℤ)
-    → SameFloat (add f (fin s m e) (fin t n d)) (plusDiff f (plus s (m * up e)) (less s (m * up e)) (down e) (plus t (n * up d)) (less t (n * up d)) (down d))
+    → SameFloat (add f (fin s m e) (fin t n d)) (plusDiff f (plusPart s (m * up e)) (minusPart s (m * up e)) (down e) (plusPart t (n * up d)) (minusPart t (n * up d)) (down d))
 add-diff f s m e t n d =
     let a = m * up e in
     let b = n * up d in
@@ -198,7 +198,7 @@ add-fin f s m e s' m' e' t n d t' n' d' h k =
     let b' = n' * up d' in
     same-trans (add-diff f s m e t n d)
     (same-trans (same-of-eq
-    (plusDiff-same f (plus s a) (less s a) (down e) (plus s' a') (less s' a') (down e') (plus t b) (less t b) (down d) (plus t' b') (less t' b') (down d')
+    (plusDiff-same f (plusPart s a) (minusPart s a) (down e) (plusPart s' a') (minusPart s' a') (down e') (plusPart t b) (minusPart t b) (down d) (plusPart t' b') (minusPart t' b') (down d')
     (down-pos e) (down-pos e') (down-pos d) (down-pos d') h k))
     (same-sym (add-diff f s' m' e' t' n' d')))
 
@@ -220,7 +220,7 @@ neg-cong both-nan = both-nan
 neg-cong (both-inf s) = both-inf (not s)
 neg-cong (both-fin s m e t n d h) = both-fin (not s) m e (not t) n d (go s t (m * up e) (n * up d) (down e) (down d) h)
   where
-    go : (s t : Bool) (a b c d : ℕ) → Frac (plus s a) (less s a) c (plus t b) (less t b) d → Frac (plus (not s) a) (less (not s) a) c (plus (not t) b) (less (not t) b) d
+    go : (s t : Bool) (a b c d : ℕ) → Frac (plusPart s a) (minusPart s a) c (plusPart t b) (minusPart t b) d → Frac (plusPart (not s) a) (minusPart (not s) a) c (plusPart (not t) b) (minusPart (not t) b) d
     go false false a b c d h = omega arith
     go false true a b c d h = omega arith
     go true false a b c d h = omega arith
@@ -241,20 +241,20 @@ mul-opens : (f : Format) (s : Bool) (m : ℕ) (e : ℤ) (t : Bool) (n : ℕ) (d 
 unfolding mul
 mul-opens f s m e t n d = refl
 
-plus-unlike : (s t : Bool) (a b : ℕ) → plus (unlike s t) (a * b) ≡ plus s a * plus t b + less s a * less t b
+plus-unlike : (s t : Bool) (a b : ℕ) → plusPart (unlike s t) (a * b) ≡ plusPart s a * plusPart t b + minusPart s a * minusPart t b
 plus-unlike false false a b = omega arith
 plus-unlike false true a b = omega arith
 plus-unlike true false a b = omega arith
 plus-unlike true true a b = omega arith
 
-less-unlike : (s t : Bool) (a b : ℕ) → less (unlike s t) (a * b) ≡ plus s a * less t b + less s a * plus t b
+less-unlike : (s t : Bool) (a b : ℕ) → minusPart (unlike s t) (a * b) ≡ plusPart s a * minusPart t b + minusPart s a * plusPart t b
 less-unlike false false a b = omega arith
 less-unlike false true a b = omega arith
 less-unlike true false a b = omega arith
 less-unlike true true a b = omega arith
 
 pub mul-diff : (f : Format) (s : Bool) (m : ℕ) (e : ℤ) (t : Bool) (n : ℕ) (d : ℤ)
-    → SameFloat (mul f (fin s m e) (fin t n d)) (timesDiff f (plus s (m * up e)) (less s (m * up e)) (down e) (plus t (n * up d)) (less t (n * up d)) (down d))
+    → SameFloat (mul f (fin s m e) (fin t n d)) (timesDiff f (plusPart s (m * up e)) (minusPart s (m * up e)) (down e) (plusPart t (n * up d)) (minusPart t (n * up d)) (down d))
 mul-diff f s m e t n d =
     let a = m * up e in
     let b = n * up d in
@@ -283,7 +283,7 @@ mul-fin f s m e s' m' e' t n d t' n' d' h k =
     let b' = n' * up d' in
     same-trans (mul-diff f s m e t n d)
     (same-trans (same-of-eq
-    (timesDiff-same f (plus s a) (less s a) (down e) (plus s' a') (less s' a') (down e') (plus t b) (less t b) (down d) (plus t' b') (less t' b') (down d')
+    (timesDiff-same f (plusPart s a) (minusPart s a) (down e) (plusPart s' a') (minusPart s' a') (down e') (plusPart t b) (minusPart t b) (down d) (plusPart t' b') (minusPart t' b') (down d')
     (down-pos e) (down-pos e') (down-pos d) (down-pos d') h k))
     (same-sym (mul-diff f s' m' e' t' n' d')))
 

@@ -16,7 +16,7 @@ use lib.Ieee.Fits.{up-pos, down-pos, and-l, and-r, round-is, two, two-le-pos}
 use lib.Ieee.Order.{drop, kept, round-mono}
 use lib.Ieee.Positive.{positive, above, positive-of-value, above-of-le}
 use Rattle.number.specs.Kind.{zeroFloat, oneFloat, finiteFloat}
-use Rattle.number.proofs.Same.{Frac, plus, less, SameFloat, both-nan, both-inf, both-fin, same-refl, same-sym, same-trans, same-of-eq, same→test}
+use Rattle.number.proofs.Same.{Frac, plusPart, minusPart, SameFloat, both-nan, both-inf, both-fin, same-refl, same-sym, same-trans, same-of-eq, same→test}
 use Rattle.number.proofs.FloatArithmetic.{Gap, over, under, gap, diff, diff-over, diff-under, diff-same, value-same, value-of, round-diff, plusDiff, add-diff, add-cong, neg-cong, mul-diff}
 
 -- ---- what the format holds: few digits, an exponent that is not too low, a magnitude that is not too large
@@ -70,14 +70,14 @@ held-value f s m e t =
     round-exact f s (m * up e) (down e) m (g .0) (down-pos e) (p .digits) (lt-of-mul-lt-mul-right (down e) below) scaled
 
 -- so a rounding of its value is the number
-held-diff : (f : Format) (s : Bool) (m : ℕ) (e : ℤ) (p l c : ℕ) → T (fits f (fin s m e)) → 0 < c → Frac p l c (plus s (m * up e)) (less s (m * up e)) (down e)
+held-diff : (f : Format) (s : Bool) (m : ℕ) (e : ℤ) (p l c : ℕ) → T (fits f (fin s m e)) → 0 < c → Frac p l c (plusPart s (m * up e)) (minusPart s (m * up e)) (down e)
     → SameFloat (diff f p l c) (fin s m e)
 held-diff f s m e p l c t C h =
     let a = m * up e in
     let r = round f s a (down e) in
-    same-trans (same-of-eq (diff-same f p l c (plus s a) (less s a) (down e) C (down-pos e) h))
+    same-trans (same-of-eq (diff-same f p l c (plusPart s a) (minusPart s a) (down e) C (down-pos e) h))
     (same-trans (same-sym (round-diff f s a (down e) (down-pos e)))
-    (value-same r (fin s m e) (plus s a) (less s a) (down e) (down-pos e) (value-of r s a (down e) (held-value f s m e t)) refl))
+    (value-same r (fin s m e) (plusPart s a) (minusPart s a) (down e) (down-pos e) (value-of r s a (down e) (held-value f s m e t)) refl))
 
 zero-diff : (f : Format) (p l c : ℕ) → 0 < c → p ≡ l → SameFloat (diff f p l c) zeroFloat
 zero-diff f p l c C h = held-diff f false 0 (pos 0) p l c (unfold fits in tt) C (omega arith)
@@ -89,8 +89,8 @@ unfolding add
 add-zero f nan t = both-nan
 add-zero f (inf s) t = both-inf s
 add-zero f (fin s m e) t =
-    let p = plus s (m * up e) in
-    let l = less s (m * up e) in
+    let p = plusPart s (m * up e) in
+    let l = minusPart s (m * up e) in
     let c = down e in
     same-trans (add-diff f s m e false 0 (pos 0)) (held-diff f s m e (p * 1 + 0 * c) (l * 1 + 0 * c) (c * 1) t (mul-pos (down-pos e) (zero-lt-suc 0)) (omega arith))
 
@@ -99,8 +99,8 @@ unfolding add
 zero-add f nan t = both-nan
 zero-add f (inf s) t = both-inf s
 zero-add f (fin s m e) t =
-    let p = plus s (m * up e) in
-    let l = less s (m * up e) in
+    let p = plusPart s (m * up e) in
+    let l = minusPart s (m * up e) in
     let c = down e in
     same-trans (add-diff f false 0 (pos 0) s m e) (held-diff f s m e (0 * c + p * 1) (0 * c + l * 1) (1 * c) t (mul-pos (zero-lt-suc 0) (down-pos e)) (omega arith))
 
@@ -117,8 +117,8 @@ unfolding finiteFloat
 mul-zero f nan t = absurd t
 mul-zero f (inf s) t = absurd t
 mul-zero f (fin s m e) t =
-    let p = plus s (m * up e) in
-    let l = less s (m * up e) in
+    let p = plusPart s (m * up e) in
+    let l = minusPart s (m * up e) in
     same-trans (mul-diff f s m e false 0 (pos 0)) (zero-diff f (p * 0 + l * 0) (p * 0 + l * 0) (down e * 1) (mul-pos (down-pos e) (zero-lt-suc 0)) refl)
 
 pub zero-mul : (f : Format) (x : Float) → T (finiteFloat x) → SameFloat (mul f zeroFloat x) zeroFloat
@@ -126,8 +126,8 @@ unfolding finiteFloat
 zero-mul f nan t = absurd t
 zero-mul f (inf s) t = absurd t
 zero-mul f (fin s m e) t =
-    let p = plus s (m * up e) in
-    let l = less s (m * up e) in
+    let p = plusPart s (m * up e) in
+    let l = minusPart s (m * up e) in
     same-trans (mul-diff f false 0 (pos 0) s m e) (zero-diff f (0 * p + 0 * l) (0 * l + 0 * p) (1 * down e) (mul-pos (zero-lt-suc 0) (down-pos e)) (omega arith))
 
 pub mul-one : (f : Format) (x : Float) → T (fits f x) → T (finiteFloat x) → SameFloat (mul f x oneFloat) x
@@ -135,8 +135,8 @@ unfolding finiteFloat
 mul-one f nan t u = absurd u
 mul-one f (inf s) t u = absurd u
 mul-one f (fin s m e) t u =
-    let p = plus s (m * up e) in
-    let l = less s (m * up e) in
+    let p = plusPart s (m * up e) in
+    let l = minusPart s (m * up e) in
     let c = down e in
     same-trans (mul-diff f s m e false 1 (pos 0)) (held-diff f s m e (p * 1 + l * 0) (p * 0 + l * 1) (c * 1) t (mul-pos (down-pos e) (zero-lt-suc 0)) (omega arith))
 
@@ -145,18 +145,18 @@ unfolding finiteFloat
 one-mul f nan t u = absurd u
 one-mul f (inf s) t u = absurd u
 one-mul f (fin s m e) t u =
-    let p = plus s (m * up e) in
-    let l = less s (m * up e) in
+    let p = plusPart s (m * up e) in
+    let l = minusPart s (m * up e) in
     let c = down e in
     same-trans (mul-diff f false 1 (pos 0) s m e) (held-diff f s m e (1 * p + 0 * l) (1 * l + 0 * p) (1 * c) t (mul-pos (zero-lt-suc 0) (down-pos e)) (omega arith))
 
 -- ---- the difference
 
-plus-not : (s : Bool) (a : ℕ) → plus (not s) a ≡ less s a
+plus-not : (s : Bool) (a : ℕ) → plusPart (not s) a ≡ minusPart s a
 plus-not false a = refl
 plus-not true a = refl
 
-less-not : (s : Bool) (a : ℕ) → less (not s) a ≡ plus s a
+less-not : (s : Bool) (a : ℕ) → minusPart (not s) a ≡ plusPart s a
 less-not false a = refl
 less-not true a = refl
 
@@ -166,19 +166,19 @@ sub-opens f x t n d = refl
 
 -- (p − l) / c − (q − r) / d
 pub sub-diff : (f : Format) (s : Bool) (m : ℕ) (e : ℤ) (t : Bool) (n : ℕ) (d : ℤ)
-    → SameFloat (sub f (fin s m e) (fin t n d)) (plusDiff f (plus s (m * up e)) (less s (m * up e)) (down e) (less t (n * up d)) (plus t (n * up d)) (down d))
+    → SameFloat (sub f (fin s m e) (fin t n d)) (plusDiff f (plusPart s (m * up e)) (minusPart s (m * up e)) (down e) (minusPart t (n * up d)) (plusPart t (n * up d)) (down d))
 sub-diff f s m e t n d =
     same-trans (same-of-eq (sub-opens f (fin s m e) t n d))
     (same-trans (add-diff f s m e (not t) n d)
-    (same-of-eq (λ i. plusDiff f (plus s (m * up e)) (less s (m * up e)) (down e) (plus-not t (n * up d) i) (less-not t (n * up d) i) (down d))))
+    (same-of-eq (λ i. plusDiff f (plusPart s (m * up e)) (minusPart s (m * up e)) (down e) (plus-not t (n * up d) i) (less-not t (n * up d) i) (down d))))
 
 pub sub-self : (f : Format) (x : Float) → T (finiteFloat x) → SameFloat (sub f x x) zeroFloat
 unfolding finiteFloat
 sub-self f nan t = absurd t
 sub-self f (inf s) t = absurd t
 sub-self f (fin s m e) t =
-    let p = plus s (m * up e) in
-    let l = less s (m * up e) in
+    let p = plusPart s (m * up e) in
+    let l = minusPart s (m * up e) in
     let c = down e in
     same-trans (sub-diff f s m e s m e) (zero-diff f (p * c + l * c) (l * c + p * c) (c * c) (mul-pos (down-pos e) (down-pos e)) (omega arith))
 
@@ -249,10 +249,10 @@ in-units p c r d w i j h g = omega (arith, ap (λ (z : ℕ). p * d * z) h, ap (�
 sub-zero-fin : (f : Format) (s : Bool) (m : ℕ) (e : ℤ) (t : Bool) (n : ℕ) (d : ℤ) → T (fits f (fin s m e)) → T (fits f (fin t n d))
     → SameFloat (sub f (fin s m e) (fin t n d)) zeroFloat → SameFloat (fin s m e) (fin t n d)
 sub-zero-fin f s m e t n d a b z =
-    let p = plus s (m * up e) in
-    let l = less s (m * up e) in
-    let q = plus t (n * up d) in
-    let r = less t (n * up d) in
+    let p = plusPart s (m * up e) in
+    let l = minusPart s (m * up e) in
+    let q = plusPart t (n * up d) in
+    let r = minusPart t (n * up d) in
     let i = divides (low f) e (parts f s m e a .fine) in
     let j = divides (low f) d (parts f t n d b .fine) in
     let h : p * down d + r * down e ≡ l * down d + q * down e =

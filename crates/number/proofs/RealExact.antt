@@ -12,7 +12,7 @@ use lib.Ieee.Back.{round-whole}
 use Rattle.number.specs.Kind.{real, zeroFloat, oneFloat}
 use Rattle.number.specs.Integers.{integers, sameInteger, floatOfInteger, sizeInteger}
 use Rattle.number.specs.Laws.{Exact}
-use Rattle.number.proofs.Same.{plus, less, SameFloat, same-refl, same-trans, same-of-eq, frac-trans}
+use Rattle.number.proofs.Same.{plusPart, minusPart, SameFloat, same-refl, same-trans, same-of-eq, frac-trans}
 use Rattle.number.proofs.FloatArithmetic.{Gap, over, under, gap, diff, diff-over, diff-under, Value, value-same, value-of, add-diff, add-cong, sub-cong, timesDiff, mul-diff, mul-cong}
 use Rattle.number.proofs.FloatExact.{neg-zero}
 use Rattle.number.proofs.RealLaws.{same→float, factor→float, float→same, eq-cong}
@@ -24,10 +24,10 @@ sign (pos n) = false
 sign (negsuc n) = true
 
 abbrev plusℤ : ℤ → ℕ
-plusℤ z = plus (sign z) (natAbs z)
+plusℤ z = plusPart (sign z) (natAbs z)
 
 abbrev lessℤ : ℤ → ℕ
-lessℤ z = less (sign z) (natAbs z)
+lessℤ z = minusPart (sign z) (natAbs z)
 
 float-is : (z : ℤ) → floatOfInteger z ≡ fin (sign z) (natAbs z) (pos 0)
 float-is (pos n) = refl
@@ -95,7 +95,7 @@ size-mul (negsuc a) (negsuc b) = le-refl (suc a * suc b)
 value-move : (x : Float) (p l p' l' : ℕ) → p + l' ≡ p' + l → Value x p l 1 → Value x p' l' 1
 value-move nan p l p' l' h v = v
 value-move (inf s) p l p' l' h v = v
-value-move (fin s m e) p l p' l' h v = frac-trans (plus s (m * up e)) (less s (m * up e)) (down e) p l 1 p' l' 1 (zero-lt-suc 0) v (omega arith)
+value-move (fin s m e) p l p' l' h v = frac-trans (plusPart s (m * up e)) (minusPart s (m * up e)) (down e) p l 1 p' l' 1 (zero-lt-suc 0) v (omega arith)
 
 diff-whole : (f : Format) (p l : ℕ) → p ≤ 2 ^ prec f → l ≤ 2 ^ prec f → Value (diff f p l 1) p l 1
 diff-whole f p l = go (gap p l)
@@ -114,17 +114,17 @@ diff-integer f z p l h a b = value-same (diff f p l 1) (floatOfInteger z) p l 1 
 
 -- ---- the operations on integers as floats
 
-plus-one : (s : Bool) (n : ℕ) → plus s (n * 1) * 1 ≡ plus s n
-plus-one s n = mul-one (plus s (n * 1)) ∙ ap (plus s) (mul-one n)
+plus-one : (s : Bool) (n : ℕ) → plusPart s (n * 1) * 1 ≡ plusPart s n
+plus-one s n = mul-one (plusPart s (n * 1)) ∙ ap (plusPart s) (mul-one n)
 
-less-one : (s : Bool) (n : ℕ) → less s (n * 1) * 1 ≡ less s n
-less-one s n = mul-one (less s (n * 1)) ∙ ap (less s) (mul-one n)
+less-one : (s : Bool) (n : ℕ) → minusPart s (n * 1) * 1 ≡ minusPart s n
+less-one s n = mul-one (minusPart s (n * 1)) ∙ ap (minusPart s) (mul-one n)
 
-plus-le : (s : Bool) (n : ℕ) → plus s n ≤ n
+plus-le : (s : Bool) (n : ℕ) → plusPart s n ≤ n
 plus-le false n = le-refl n
 plus-le true n = omega arith
 
-less-le : (s : Bool) (n : ℕ) → less s n ≤ n
+less-le : (s : Bool) (n : ℕ) → minusPart s n ≤ n
 less-le false n = omega arith
 less-le true n = le-refl n
 
@@ -148,7 +148,7 @@ sub-integers f a b h =
     same-trans (add-cong f (same-refl (floatOfInteger a)) (neg-integer b)) (add-integers f a (negℤ b) (omega (arith, size-neg b)))
 
 -- of the product's plus and less one is 0
-mul-le : (s : Bool) (m : ℕ) (t : Bool) (n : ℕ) → (plus s m * plus t n + less s m * less t n ≤ m * n) × (plus s m * less t n + less s m * plus t n ≤ m * n)
+mul-le : (s : Bool) (m : ℕ) (t : Bool) (n : ℕ) → (plusPart s m * plusPart t n + minusPart s m * minusPart t n ≤ m * n) × (plusPart s m * minusPart t n + minusPart s m * plusPart t n ≤ m * n)
 mul-le false m false n = omega arith
 mul-le false m true n = omega arith
 mul-le true m false n = omega arith
@@ -159,7 +159,7 @@ mul-integers f a b h =
     let bounds = mul-le (sign a) (natAbs a) (sign b) (natAbs b) in
     same-trans (same-of-eq (λ i. mul f (float-is a i) (float-is b i)))
     (same-trans (mul-diff f (sign a) (natAbs a) (pos 0) (sign b) (natAbs b) (pos 0))
-    (same-trans (same-of-eq (λ i. timesDiff f (plus (sign a) (mul-one (natAbs a) i)) (less (sign a) (mul-one (natAbs a) i)) 1 (plus (sign b) (mul-one (natAbs b) i)) (less (sign b) (mul-one (natAbs b) i)) 1))
+    (same-trans (same-of-eq (λ i. timesDiff f (plusPart (sign a) (mul-one (natAbs a) i)) (minusPart (sign a) (mul-one (natAbs a) i)) 1 (plusPart (sign b) (mul-one (natAbs b) i)) (minusPart (sign b) (mul-one (natAbs b) i)) 1))
     (diff-integer f (a *ℤ b) (plusℤ a * plusℤ b + lessℤ a * lessℤ b) (plusℤ a * lessℤ b + lessℤ a * plusℤ b) (mul-is a b) (le-trans (bounds .0) h) (le-trans (bounds .1) h))))
 
 -- ---- comparison

@@ -26,19 +26,19 @@ frac-trans p l c p' l' c' p'' l'' c'' C' h k =
     (omega (arith, ap (λ (z : ℕ). z * c'') h, ap (λ (z : ℕ). z * c) k))
 
 -- a magnitude with its sign is plus − less
-abbrev pub plus : Bool → ℕ → ℕ
-plus false a = a
-plus true a = 0
+abbrev pub plusPart : Bool → ℕ → ℕ
+plusPart false a = a
+plusPart true a = 0
 
-abbrev pub less : Bool → ℕ → ℕ
-less false a = 0
-less true a = a
+abbrev pub minusPart : Bool → ℕ → ℕ
+minusPart false a = 0
+minusPart true a = a
 
 -- ---- the three ways to be equal
 
 -- the finite floats ±m · 2 ^ e and ±n · 2 ^ d are one number
 abbrev pub SameFinite : Bool → ℕ → ℤ → Bool → ℕ → ℤ → Type 0
-SameFinite s m e t n d = Frac (plus s (m * up e)) (less s (m * up e)) (down e) (plus t (n * up d)) (less t (n * up d)) (down d)
+SameFinite s m e t n d = Frac (plusPart s (m * up e)) (minusPart s (m * up e)) (down e) (plusPart t (n * up d)) (minusPart t (n * up d)) (down d)
 
 pub data SameFloat : Float → Float → Type 0 where
   both-nan : SameFloat nan nan
@@ -54,48 +54,48 @@ same-refl (fin s m e) = both-fin s m e s m e refl
 pub same-sym : {x y : Float} → SameFloat x y → SameFloat y x
 same-sym both-nan = both-nan
 same-sym (both-inf s) = both-inf s
-same-sym (both-fin s m e t n d h) = both-fin t n d s m e (frac-sym (plus s (m * up e)) (less s (m * up e)) (down e) (plus t (n * up d)) (less t (n * up d)) (down d) h)
+same-sym (both-fin s m e t n d h) = both-fin t n d s m e (frac-sym (plusPart s (m * up e)) (minusPart s (m * up e)) (down e) (plusPart t (n * up d)) (minusPart t (n * up d)) (down d) h)
 
 pub same-trans : {x y z : Float} → SameFloat x y → SameFloat y z → SameFloat x z
 same-trans both-nan both-nan = both-nan
 same-trans (both-inf s) (both-inf t) = both-inf s
 same-trans (both-fin s m e t n d h) (both-fin t' n' d' u k g h') =
-    both-fin s m e u k g (frac-trans (plus s (m * up e)) (less s (m * up e)) (down e) (plus t (n * up d)) (less t (n * up d)) (down d) (plus u (k * up g)) (less u (k * up g)) (down g) (down-pos d) h h')
+    both-fin s m e u k g (frac-trans (plusPart s (m * up e)) (minusPart s (m * up e)) (down e) (plusPart t (n * up d)) (minusPart t (n * up d)) (down d) (plusPart u (k * up g)) (minusPart u (k * up g)) (down g) (down-pos d) h h')
 
 pub same-of-eq : {x y : Float} → x ≡ y → SameFloat x y
 same-of-eq {x} p = subst (λ (z : Float). SameFloat x z) p (same-refl x)
 
 -- ---- `level`, the comparison of two magnitudes with their signs
 
-level→frac : (s t : Bool) (a b c d : ℕ) → T (level s (a * d) t (b * c)) → Frac (plus s a) (less s a) c (plus t b) (less t b) d
+level→frac : (s t : Bool) (a b c d : ℕ) → T (level s (a * d) t (b * c)) → Frac (plusPart s a) (minusPart s a) c (plusPart t b) (minusPart t b) d
 level→frac s t a b c d h = go s t (eqb→eq (a * d) (b * c) (and-l (eqb (a * d) (b * c)) (Bool·beq s t || eqb (a * d) 0) h)) (and-r (eqb (a * d) (b * c)) (Bool·beq s t || eqb (a * d) 0) h)
   where
-    go : (s t : Bool) → a * d ≡ b * c → T (Bool·beq s t || eqb (a * d) 0) → Frac (plus s a) (less s a) c (plus t b) (less t b) d
+    go : (s t : Bool) → a * d ≡ b * c → T (Bool·beq s t || eqb (a * d) 0) → Frac (plusPart s a) (minusPart s a) c (plusPart t b) (minusPart t b) d
     go false false p q = omega arith
     go false true p q = omega (arith, eqb→eq (a * d) 0 q)
     go true false p q = omega (arith, eqb→eq (a * d) 0 q)
     go true true p q = omega arith
 
-pub frac→magnitudes : (s t : Bool) (a b c d : ℕ) → Frac (plus s a) (less s a) c (plus t b) (less t b) d → a * d ≡ b * c
+pub frac→magnitudes : (s t : Bool) (a b c d : ℕ) → Frac (plusPart s a) (minusPart s a) c (plusPart t b) (minusPart t b) d → a * d ≡ b * c
 frac→magnitudes false false a b c d h = omega arith
 frac→magnitudes false true a b c d h = omega arith
 frac→magnitudes true false a b c d h = omega arith
 frac→magnitudes true true a b c d h = omega arith
 
 -- numbers that are not zero have one sign
-pub frac→signs : (s t : Bool) (a b c d : ℕ) → 0 < a * d → Frac (plus s a) (less s a) c (plus t b) (less t b) d → s ≡ t
+pub frac→signs : (s t : Bool) (a b c d : ℕ) → 0 < a * d → Frac (plusPart s a) (minusPart s a) c (plusPart t b) (minusPart t b) d → s ≡ t
 frac→signs false false a b c d q h = refl
 frac→signs false true a b c d q h = absurd (omega arith)
 frac→signs true false a b c d q h = absurd (omega arith)
 frac→signs true true a b c d q h = refl
 
-frac→level : (s t : Bool) (a b c d : ℕ) → Frac (plus s a) (less s a) c (plus t b) (less t b) d → T (level s (a * d) t (b * c))
+frac→level : (s t : Bool) (a b c d : ℕ) → Frac (plusPart s a) (minusPart s a) c (plusPart t b) (minusPart t b) d → T (level s (a * d) t (b * c))
 frac→level s t a b c d h = and-i (eqb (a * d) (b * c)) (Bool·beq s t || eqb (a * d) 0) (eq→eqb (frac→magnitudes s t a b c d h)) (go s t h)
   where
     zero-of : (x y : ℕ) → x + y ≡ 0 → x ≡ 0
     zero-of x y h = omega arith
 
-    go : (s t : Bool) → Frac (plus s a) (less s a) c (plus t b) (less t b) d → T (Bool·beq s t || eqb (a * d) 0)
+    go : (s t : Bool) → Frac (plusPart s a) (minusPart s a) c (plusPart t b) (minusPart t b) d → T (Bool·beq s t || eqb (a * d) 0)
     go false false h = tt
     go false true h = eq→eqb (zero-of (a * d) (b * c) (omega arith))
     go true false h = eq→eqb (zero-of (a * d) (b * c) (omega arith))

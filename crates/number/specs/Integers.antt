@@ -1,5 +1,5 @@
 -- Whole numbers as kinds: `integers` beside the real kinds and `gaussian` beside `complex`. Their operations are exact, so a routine's
--- formula over one of them is the papers' formula over whole numbers. A quotient is cut toward zero.
+-- formula over one of them is the papers' formula over whole numbers. A quotient is cut toward zero. Their cells have any size, and no number of bytes.
 use Prim.Native.Nat.{ℕ, suc, _+_, _*_, _/_}
 use mathlib.Core.Bool.{Bool, true, false, _&&_}
 use mathlib.Core.List.{List}
@@ -37,6 +37,7 @@ integers =
       isZeroFactor = λ v. sameInteger v (pos 0);
       isOneFactor = λ v. sameInteger v (pos 1);
       width = 1;
+      bytes = 0;
       count = λ s. length s;
       at = λ s k. getD s k (pos 0);
       put = λ s k z. set s k z;
@@ -81,6 +82,7 @@ gaussian =
       isZeroFactor = λ v. sameInteger v (pos 0);
       isOneFactor = λ v. sameInteger v (pos 1);
       width = 2;
+      bytes = 0;
       count = λ s. length s / 2;
       at = λ s k. record { re = getD s (2 * k) (pos 0); im = getD s (2 * k + 1) (pos 0) };
       put = λ s k a. set (set s (2 * k) (a .re)) (2 * k + 1) (a .im);

@@ -30,8 +30,9 @@ pub record Kind : Type 1 where
   pub scaleReal : Factor → Elem → Elem
   pub isZeroFactor : Factor → Bool
   pub isOneFactor : Factor → Bool
-  -- the slab: cells to an element, how many whole elements it has, element k, and the slab with element k replaced
+  -- the slab: cells to an element, bytes to a cell, how many whole elements it has, element k, and the slab with element k replaced
   pub width : ℕ
+  pub bytes : ℕ
   pub count : List Cell → ℕ
   pub at : List Cell → ℕ → Elem
   pub put : List Cell → ℕ → Elem → List Cell
@@ -76,6 +77,11 @@ finiteFloat nan = false
 finiteFloat (inf s) = false
 finiteFloat (fin s m e) = Bool.true
 
+-- bytes to a number of a format
+abbrev pub bytesOf : Format → ℕ
+bytesOf binary32 = 4
+bytesOf binary64 = 8
+
 -- ---- the real kinds: IEEE 754's operations, rounded once; the conjugate of a real number is itself
 
 abbrev pub real : Format → Kind
@@ -98,6 +104,7 @@ real f =
       isZeroFactor = λ v. eq v zeroFloat;
       isOneFactor = λ v. eq v oneFloat;
       width = 1;
+      bytes = bytesOf f;
       count = λ s. length s;
       at = λ s k. getD s k nan;
       put = λ s k x. set s k x;
@@ -171,6 +178,7 @@ complex =
       isZeroFactor = λ v. eq v zeroFloat;
       isOneFactor = λ v. eq v oneFloat;
       width = 2;
+      bytes = bytesOf binary64;
       count = λ s. length s / 2;
       at = λ s k. record { re = getD s (2 * k) nan; im = getD s (2 * k + 1) nan };
       put = λ s k a. set (set s (2 * k) (a .re)) (2 * k + 1) (a .im);

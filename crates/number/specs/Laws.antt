@@ -88,8 +88,8 @@ pub record Laws (K : Kind) : Type 0 where
 -- ---- exactness on whole numbers: K's operations beside those of the exact kind Z
 
 -- x is the whole number z: equal as a number to z, written as a number of K
-abbrev pub Whole : (K Z : Kind) → (Z .Elem → K .Elem) → K .Elem → Z .Elem → Type 0
-Whole K Z ofWhole x z = Same K x (ofWhole z)
+abbrev pub EqualsWhole : (K Z : Kind) → (Z .Elem → K .Elem) → K .Elem → Z .Elem → Type 0
+EqualsWhole K Z ofWhole x z = Same K x (ofWhole z)
 
 pub record Exact (K Z : Kind) : Type 0 where
   -- a whole number as an element and as a real factor, and its size
@@ -99,19 +99,19 @@ pub record Exact (K Z : Kind) : Type 0 where
   pub sizeFactor : Z .Factor → ℕ
   -- every whole number up to it is held exactly
   pub bound : ℕ
-  pub zero-exact : Whole K Z ofWhole (K .zero) (Z .zero)
-  pub one-exact : Whole K Z ofWhole (K .one) (Z .one)
-  pub add-exact : {x y : K .Elem} {a b : Z .Elem} → Whole K Z ofWhole x a → Whole K Z ofWhole y b → size a + size b ≤ bound
-      → Whole K Z ofWhole (K .add x y) (Z .add a b)
-  pub sub-exact : {x y : K .Elem} {a b : Z .Elem} → Whole K Z ofWhole x a → Whole K Z ofWhole y b → size a + size b ≤ bound
-      → Whole K Z ofWhole (K .sub x y) (Z .sub a b)
-  pub mul-exact : {x y : K .Elem} {a b : Z .Elem} → Whole K Z ofWhole x a → Whole K Z ofWhole y b → size a * size b ≤ bound
-      → Whole K Z ofWhole (K .mul x y) (Z .mul a b)
-  pub conj-exact : {x : K .Elem} {a : Z .Elem} → Whole K Z ofWhole x a → Whole K Z ofWhole (K .conj x) (Z .conj a)
-  pub scale-exact : {v : K .Factor} {x : K .Elem} {c : Z .Factor} {a : Z .Elem} → SameFactor K v (ofWholeFactor c) → Whole K Z ofWhole x a
-      → sizeFactor c * size a ≤ bound → Whole K Z ofWhole (K .scaleReal v x) (Z .scaleReal c a)
-  pub isZero-exact : {x : K .Elem} {a : Z .Elem} → Whole K Z ofWhole x a → K .isZero x ≡ Z .isZero a
-  pub isOne-exact : {x : K .Elem} {a : Z .Elem} → Whole K Z ofWhole x a → K .isOne x ≡ Z .isOne a
+  pub zero-exact : EqualsWhole K Z ofWhole (K .zero) (Z .zero)
+  pub one-exact : EqualsWhole K Z ofWhole (K .one) (Z .one)
+  pub add-exact : {x y : K .Elem} {a b : Z .Elem} → EqualsWhole K Z ofWhole x a → EqualsWhole K Z ofWhole y b → size a + size b ≤ bound
+      → EqualsWhole K Z ofWhole (K .add x y) (Z .add a b)
+  pub sub-exact : {x y : K .Elem} {a b : Z .Elem} → EqualsWhole K Z ofWhole x a → EqualsWhole K Z ofWhole y b → size a + size b ≤ bound
+      → EqualsWhole K Z ofWhole (K .sub x y) (Z .sub a b)
+  pub mul-exact : {x y : K .Elem} {a b : Z .Elem} → EqualsWhole K Z ofWhole x a → EqualsWhole K Z ofWhole y b → size a * size b ≤ bound
+      → EqualsWhole K Z ofWhole (K .mul x y) (Z .mul a b)
+  pub conj-exact : {x : K .Elem} {a : Z .Elem} → EqualsWhole K Z ofWhole x a → EqualsWhole K Z ofWhole (K .conj x) (Z .conj a)
+  pub scale-exact : {v : K .Factor} {x : K .Elem} {c : Z .Factor} {a : Z .Elem} → SameFactor K v (ofWholeFactor c) → EqualsWhole K Z ofWhole x a
+      → sizeFactor c * size a ≤ bound → EqualsWhole K Z ofWhole (K .scaleReal v x) (Z .scaleReal c a)
+  pub isZero-exact : {x : K .Elem} {a : Z .Elem} → EqualsWhole K Z ofWhole x a → K .isZero x ≡ Z .isZero a
+  pub isOne-exact : {x : K .Elem} {a : Z .Elem} → EqualsWhole K Z ofWhole x a → K .isOne x ≡ Z .isOne a
   pub isZeroFactor-exact : {v : K .Factor} {c : Z .Factor} → SameFactor K v (ofWholeFactor c) → K .isZeroFactor v ≡ Z .isZeroFactor c
   pub isOneFactor-exact : {v : K .Factor} {c : Z .Factor} → SameFactor K v (ofWholeFactor c) → K .isOneFactor v ≡ Z .isOneFactor c
   pub size-zero : size (Z .zero) ≡ 0

@@ -13,6 +13,19 @@ impl Real64 {
 
     pub const ONE: Real64 = Real64(1.0);
 
+    // ZERO and ONE, by what they are.
+    pub fn zero() -> Real64
+        ensures { λ r. ⌜ r .0 ≡ real64 .zero ⌝ }
+    {
+        Real64::ZERO
+    }
+
+    pub fn one() -> Real64
+        ensures { λ r. ⌜ r .0 ≡ real64 .one ⌝ }
+    {
+        Real64::ONE
+    }
+
     pub fn add(self, other: Real64) -> Real64
         ensures { λ r. ⌜ r .0 ≡ real64 .add (self .0) (other .0) ⌝ }
     {
@@ -109,6 +122,19 @@ impl Real32 {
     pub const ZERO: Real32 = Real32(0.0);
 
     pub const ONE: Real32 = Real32(1.0);
+
+    // ZERO and ONE, by what they are.
+    pub fn zero() -> Real32
+        ensures { λ r. ⌜ r .0 ≡ real32 .zero ⌝ }
+    {
+        Real32::ZERO
+    }
+
+    pub fn one() -> Real32
+        ensures { λ r. ⌜ r .0 ≡ real32 .one ⌝ }
+    {
+        Real32::ONE
+    }
 
     pub fn add(self, other: Real32) -> Real32
         ensures { λ r. ⌜ r .0 ≡ real32 .add (self .0) (other .0) ⌝ }
@@ -209,6 +235,19 @@ impl Complex {
     pub const ZERO: Complex = Complex { re: 0.0, im: 0.0 };
 
     pub const ONE: Complex = Complex { re: 1.0, im: 0.0 };
+
+    // ZERO and ONE, by what they are.
+    pub fn zero() -> Complex
+        ensures { λ r. ⌜ r ≡ complex .zero ⌝ }
+    {
+        Complex::ZERO
+    }
+
+    pub fn one() -> Complex
+        ensures { λ r. ⌜ r ≡ complex .one ⌝ }
+    {
+        Complex::ONE
+    }
 
     pub fn add(self, other: Complex) -> Complex
         ensures { λ r. ⌜ r ≡ complex .add self other ⌝ }

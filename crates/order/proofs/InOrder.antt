@@ -9,7 +9,7 @@ use lib.ListN.{set}
 use Rattle.number.specs.Kind.{Kind, real, complex}
 use Rattle.view.specs.declared.View.{View}
 use Rattle.view.specs.Place.{index}
-use Rattle.slab.specs.Update.{Mask, step, row, rows, update}
+use Rattle.slab.specs.Update.{Mask, updateOne, updateRow, updateRows, update}
 use Rattle.slab.specs.Distinct.{Distinct}
 use Rattle.slab.proofs.UpdateLaws.{Keeps, row-both, rows-both}
 
@@ -68,12 +68,12 @@ module _ (K : Kind) (W : Swaps K) (v : View) (mask mask' : Mask) (g : ℕ → �
         ∙ W .swap t (index v i j) (index v r c) (g i j) (g r c) (λ d. let b = o .only r c i j h l p q d in n (b .0) (b .1)),
   )
 
-  there : (s t : List (K .Cell)) → s ≡ t → step K v mask' (λ r c x. g r c) i j s ≡ K .put (step K v mask (λ r c x. g r c) i j t) (index v i j) (g i j)
-  unfolding step
+  there : (s t : List (K .Cell)) → s ≡ t → updateOne K v mask' (λ r c x. g r c) i j s ≡ K .put (updateOne K v mask (λ r c x. g r c) i j t) (index v i j) (g i j)
+  unfolding updateOne
   there s t e = rw (new, old) (ap (λ (w : List (K .Cell)). K .put w (index v i j) (g i j)) e)
 
   pub one-more : (s : List (K .Cell)) → update K v mask' (λ r c x. g r c) s ≡ K .put (update K v mask (λ r c x. g r c) s) (index v i j) (g i j)
-  unfolding row rows
+  unfolding updateRow updateRows
   one-more s =
       rows-both K v mask' mask (λ r c x. g r c) (λ r c x. g r c) More (suc i) (v .rows) p
       (λ r l h c k. more r c h k (λ a b. omega arith))
@@ -81,13 +81,13 @@ module _ (K : Kind) (W : Swaps K) (v : View) (mask mask' : Mask) (g : ℕ → �
       s
       (row-both K v mask' mask (λ r c x. g r c) (λ r c x. g r c) More i (suc j) (v .cols) q
       (λ c l h. more i c p h (λ a b. omega arith))
-      (rows K v mask' (λ r c x. g r c) i s)
-      (rows K v mask (λ r c x. g r c) i s)
+      (updateRows K v mask' (λ r c x. g r c) i s)
+      (updateRows K v mask (λ r c x. g r c) i s)
       (there _ _
       (row-both K v mask' mask (λ r c x. g r c) (λ r c x. g r c) Equal i 0 j (omega arith)
       (λ c l h. equal i c p (omega arith) (λ a b. omega arith))
-      (rows K v mask' (λ r c x. g r c) i s)
-      (rows K v mask (λ r c x. g r c) i s)
+      (updateRows K v mask' (λ r c x. g r c) i s)
+      (updateRows K v mask (λ r c x. g r c) i s)
       (rows-both K v mask' mask (λ r c x. g r c) (λ r c x. g r c) Equal 0 i (omega arith)
       (λ r l h c k. equal r c (omega arith) k (λ a b. omega arith))
       s

@@ -16,13 +16,13 @@ use Rattle.view.specs.declared.Side.{Side}
 use Rattle.view.specs.declared.Side.the-variants.{Left, Right}
 use Rattle.view.specs.Checks.{orderOf}
 use Rattle.slab.specs.Elem.{elem}
-use Rattle.slab.specs.Run.{more}
+use Rattle.slab.specs.Run.{plusTerms}
 use Rattle.blas.specs.Matrix.{Matrix, op, sumOver}
 use Rattle.blas.specs.Triangular.{opUpper, inOp, triangular}
 use Rattle.blas.specs.Substitution.{unknown, lastFirst}
 use Rattle.order.specs.declared.System.{System}
 use Rattle.order.specs.Triangles.{systemOf, coefficient}
-use Rattle.order.specs.Multiply.{ownDiag, own, term, lineSum}
+use Rattle.order.specs.Multiply.{ownDiag, own, lineTerm, lineSum}
 use Rattle.number.proofs.Commutes.{Commutes}
 use Rattle.order.proofs.Systems.{coefficient-is, lines-elem}
 
@@ -41,8 +41,8 @@ module _ (K : Kind) (f : ℕ → K .Elem) (q : ℕ) where
   none-yet (suc n) h =
       ap (λ (b : Bool). cond b (K .add (sumOver K n from-q f) (f n)) (sumOver K n from-q f)) (lt-leb q n (omega arith)) ∙ none-yet n (omega arith)
 
-  over-behind : (k : ℕ) → sumOver K (suc q + k) from-q f ≡ more K (K .add (K .zero) (f q)) f (suc q) k
-  unfolding sumOver more
+  over-behind : (k : ℕ) → sumOver K (suc q + k) from-q f ≡ plusTerms K (K .add (K .zero) (f q)) f (suc q) k
+  unfolding sumOver plusTerms
   over-behind zero =
       let e : suc q + 0 ≡ suc q = omega arith in
       ap (λ (n : ℕ). sumOver K n from-q f) e
@@ -54,20 +54,20 @@ module _ (K : Kind) (f : ℕ → K .Elem) (q : ℕ) where
       ∙ ap (λ (b : Bool). cond b (K .add (sumOver K (suc q + k) from-q f) (f (suc q + k))) (sumOver K (suc q + k) from-q f)) (le-leb q (suc q + k) (omega arith))
       ∙ ap (λ (x : K .Elem). K .add x (f (suc q + k))) (over-behind k)
 
-  all-so-far : (n : ℕ) → n ≤ suc q → sumOver K n to-q f ≡ more K (K .zero) f 0 n
-  unfolding sumOver more
+  all-so-far : (n : ℕ) → n ≤ suc q → sumOver K n to-q f ≡ plusTerms K (K .zero) f 0 n
+  unfolding sumOver plusTerms
   all-so-far zero h = refl
   all-so-far (suc n) h =
       let e : n ≡ 0 + n = omega arith in
       ap (λ (b : Bool). cond b (K .add (sumOver K n to-q f) (f n)) (sumOver K n to-q f)) (le-leb n q (omega arith))
       ∙ (λ i. K .add (all-so-far n (omega arith) i) (f (e i)))
 
-  over-before : (k : ℕ) → sumOver K (suc q + k) to-q f ≡ K .add (more K (K .zero) f 0 q) (f q)
-  unfolding sumOver more
+  over-before : (k : ℕ) → sumOver K (suc q + k) to-q f ≡ K .add (plusTerms K (K .zero) f 0 q) (f q)
+  unfolding sumOver plusTerms
   over-before zero =
       let e : suc q + 0 ≡ suc q = omega arith in
       let d : 0 + q ≡ q = omega arith in
-      ap (λ (n : ℕ). sumOver K n to-q f) e ∙ all-so-far (suc q) (omega arith) ∙ ap (λ (p : ℕ). K .add (more K (K .zero) f 0 q) (f p)) d
+      ap (λ (n : ℕ). sumOver K n to-q f) e ∙ all-so-far (suc q) (omega arith) ∙ ap (λ (p : ℕ). K .add (plusTerms K (K .zero) f 0 q) (f p)) d
   over-before (suc k) =
       let e : suc q + suc k ≡ suc (suc q + k) = omega arith in
       ap (λ (n : ℕ). sumOver K n to-q f) e
@@ -75,8 +75,8 @@ module _ (K : Kind) (f : ℕ → K .Elem) (q : ℕ) where
       ∙ over-before k
 
 -- runs whose terms agree
-more-cong : (K : Kind) (f g : ℕ → K .Elem) (x : K .Elem) (from n : ℕ) → ((i : ℕ) → i < n → f (from + i) ≡ g (from + i)) → more K x f from n ≡ more K x g from n
-unfolding more
+more-cong : (K : Kind) (f g : ℕ → K .Elem) (x : K .Elem) (from n : ℕ) → ((i : ℕ) → i < n → f (from + i) ≡ g (from + i)) → plusTerms K x f from n ≡ plusTerms K x g from n
+unfolding plusTerms
 more-cong K f g x from zero h = refl
 more-cong K f g x from (suc n) h = λ i. K .add (more-cong K f g x from n (λ p l. h p (omega arith)) i) (h n (omega arith) i)
 
@@ -84,10 +84,10 @@ more-cong K f g x from (suc n) h = λ i. K .add (more-cong K f g x from n (λ p 
 module _ (K : Kind) (f g : ℕ → K .Elem) (own : K .Elem) (m q : ℕ) (below : q < m) (at-q : own ≡ f q)
     (else : (p : ℕ) → (q ≡ p → ⊥) → g p ≡ f p) where
   sum-in-parts : (last : Bool)
-      → cond last (more K (K .add (K .zero) own) g (suc q) (m - suc q)) (K .add (more K (K .zero) g 0 q) own) ≡ sumOver K m (λ p. cond last (leb q p) (leb p q)) f
+      → cond last (plusTerms K (K .add (K .zero) own) g (suc q) (m - suc q)) (K .add (plusTerms K (K .zero) g 0 q) own) ≡ sumOver K m (λ p. cond last (leb q p) (leb p q)) f
   sum-in-parts true =
       let e : suc q + (m - suc q) ≡ m = omega arith in
-      ap (λ (x : K .Elem). more K (K .add (K .zero) x) g (suc q) (m - suc q)) at-q
+      ap (λ (x : K .Elem). plusTerms K (K .add (K .zero) x) g (suc q) (m - suc q)) at-q
       ∙ more-cong K g f (K .add (K .zero) (f q)) (suc q) (m - suc q) (λ i l. else (suc q + i) (λ d. omega arith))
       ∙ sym (over-behind K f q (m - suc q))
       ∙ ap (λ (n : ℕ). sumOver K n (λ p. leb q p) f) e
@@ -158,18 +158,18 @@ module _ (K : Kind) (y : System) (a s : List (K .Cell)) (q l : ℕ) (c x o z : K
   own-term = brought ∙ (λ i. K .mul (weighed i) (read i))
 
   pub sum-behind : (m : ℕ) (first r : K .Elem) → y .last ≡ true → m ≡ y .b .rows → first ≡ K .add z o
-      → r ≡ more K first (term K y a s q l) (q + 1) (m - 1 - q) → r ≡ lineSum K y a s q l
+      → r ≡ plusTerms K first (lineTerm K y a s q l) (q + 1) (m - 1 - q) → r ≡ lineSum K y a s q l
   unfolding lineSum
   sum-behind m first r h counted began e =
       let f : q + 1 ≡ suc q = omega arith in
       let n : m - 1 - q ≡ y .b .rows - suc q = omega arith in
       e
-      ∙ (λ i. more K ((began ∙ (λ j. K .add (begun j) (own-term j))) i) (term K y a s q l) (f i) (n i))
-      ∙ sym (ap (λ (b : Bool). cond b (more K (K .add (K .zero) (own K y a s q l)) (term K y a s q l) (suc q) (y .b .rows - suc q)) (K .add (more K (K .zero) (term K y a s q l) 0 q) (own K y a s q l))) h)
+      ∙ (λ i. plusTerms K ((began ∙ (λ j. K .add (begun j) (own-term j))) i) (lineTerm K y a s q l) (f i) (n i))
+      ∙ sym (ap (λ (b : Bool). cond b (plusTerms K (K .add (K .zero) (own K y a s q l)) (lineTerm K y a s q l) (suc q) (y .b .rows - suc q)) (K .add (plusTerms K (K .zero) (lineTerm K y a s q l) 0 q) (own K y a s q l))) h)
 
-  pub sum-before : (sum r : K .Elem) → y .last ≡ false → sum ≡ more K z (term K y a s q l) 0 q → r ≡ K .add sum o → r ≡ lineSum K y a s q l
+  pub sum-before : (sum r : K .Elem) → y .last ≡ false → sum ≡ plusTerms K z (lineTerm K y a s q l) 0 q → r ≡ K .add sum o → r ≡ lineSum K y a s q l
   unfolding lineSum
   sum-before sum r h summed e =
       e
-      ∙ (λ i. K .add ((summed ∙ ap (λ (w : K .Elem). more K w (term K y a s q l) 0 q) begun) i) (own-term i))
-      ∙ sym (ap (λ (b : Bool). cond b (more K (K .add (K .zero) (own K y a s q l)) (term K y a s q l) (suc q) (y .b .rows - suc q)) (K .add (more K (K .zero) (term K y a s q l) 0 q) (own K y a s q l))) h)
+      ∙ (λ i. K .add ((summed ∙ ap (λ (w : K .Elem). plusTerms K w (lineTerm K y a s q l) 0 q) begun) i) (own-term i))
+      ∙ sym (ap (λ (b : Bool). cond b (plusTerms K (K .add (K .zero) (own K y a s q l)) (lineTerm K y a s q l) (suc q) (y .b .rows - suc q)) (K .add (plusTerms K (K .zero) (lineTerm K y a s q l) 0 q) (own K y a s q l))) h)

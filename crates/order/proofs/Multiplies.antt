@@ -20,7 +20,7 @@ use Rattle.view.specs.AnyLaws.{clash, both-ways}
 use Rattle.view.specs.Checks.{orderOf}
 use Rattle.view.specs.Place.{index}
 use Rattle.slab.specs.Elem.{elem}
-use Rattle.slab.specs.Update.{Mask, everywhere, rows, update}
+use Rattle.slab.specs.Update.{Mask, everywhere, updateRows, update}
 use Rattle.slab.specs.Distinct.{Inside, Distinct}
 use Rattle.slab.proofs.UpdateLaws.{rows-both, update-mask, update-shown}
 use Rattle.blas.specs.Matrix.{Matrix}
@@ -146,7 +146,7 @@ lines-rows Left v = refl
 lines-rows Right v = refl
 
 module _ (K : Kind) (L : SlabLaws K) (W : Swaps K) (C : Commutes K) (side : Side) (uplo : UpLo) (t : Trans) (diag : Diag) (va : View) (sa : List (K .Cell))
-    (start : K .Elem → K .Elem) (v : View) (s₀ : List (K .Cell)) (inside : Inside v (K .count s₀)) (distinct : Distinct v) where
+    (begin : K .Elem → K .Elem) (v : View) (s₀ : List (K .Cell)) (inside : Inside v (K .count s₀)) (distinct : Distinct v) where
   abbrev system : System
   system = systemOf side uplo t diag va v
 
@@ -162,13 +162,13 @@ module _ (K : Kind) (L : SlabLaws K) (W : Swaps K) (C : Commutes K) (side : Side
 
   -- an element of the product, from the slab as lent
   abbrev product : ℕ → ℕ → K .Elem
-  product r c = start (triangularDot K side uplo t diag (orderOf side v) a (elem K s₀ v) r c)
+  product r c = begin (triangularDot K side uplo t diag (orderOf side v) a (elem K s₀ v) r c)
 
   abbrev after : ℕ → List (K .Cell)
   after n = update K v (done n) (λ r c x. product r c) s₀
 
   none-done : after 0 ≡ s₀
-  unfolding rows
+  unfolding updateRows
   none-done =
       rows-both K v (done 0) (done 0) (λ r c x. product r c) (λ r c x. product r c) (λ s s'. s ≡ s₀) 0 (v .rows) (omega arith)
       (λ r l h c k. (refl, λ e. absurd (clash e (le-ltb (rank side last v r c) 0 (omega arith)))))
@@ -231,12 +231,12 @@ module _ (K : Kind) (L : SlabLaws K) (W : Swaps K) (C : Commutes K) (side : Side
         (λ p g e. ap (weighs K side diag t a q p) (unwritten p g e))
         ∙ at-dot K side uplo t diag a v s₀ q lineN
 
-    next : (s : List (K .Cell)) → s ≡ after n → multiplyOne K system sa start turnN lineN s ≡ after (suc n)
+    next : (s : List (K .Cell)) → s ≡ after n → multiplyOne K system sa begin turnN lineN s ≡ after (suc n)
     unfolding multiplyOne
     next s e =
-        (λ i. K .put (e i) (index (linesView side v) (inOrder last (lines-rows side v i) turnN) lineN) (start (lineSum K system sa (e i) (inOrder last (lines-rows side v i) turnN) lineN)))
+        (λ i. K .put (e i) (index (linesView side v) (inOrder last (lines-rows side v i) turnN) lineN) (begin (lineSum K system sa (e i) (inOrder last (lines-rows side v i) turnN) lineN)))
         ∙ (λ i. K .put (after n) ((lines-index side v q lineN ∙ at-index side v q lineN) i)
-        (start ((line-sum-is K C uplo t diag va v sa (after n) q lineN side q-in ∙ same-dot) i)))
+        (begin ((line-sum-is K C uplo t diag va v sa (after n) q lineN side q-in ∙ same-dot) i)))
         ∙ sym (one-more K W v (done n) (done (suc n)) product r c (shown .0) (shown .1) distinct
         (lt-ltb _ (suc n) (is-last (rank-at side last v n h))) (le-ltb _ n (is-not (rank-at side last v n h))) like s₀)
       where
@@ -248,7 +248,7 @@ module _ (K : Kind) (L : SlabLaws K) (W : Swaps K) (C : Commutes K) (side : Side
 
   -- the n-th step
   abbrev nthStep : ℕ → List (K .Cell) → List (K .Cell)
-  nthStep n = multiplyOne K system sa start (n % orderOf side v) (n / orderOf side v)
+  nthStep n = multiplyOne K system sa begin (n % orderOf side v) (n / orderOf side v)
 
   so-far : (n : ℕ) → n ≤ total side v → walk n nthStep s₀ ≡ after n
   unfolding walk
@@ -259,12 +259,12 @@ module _ (K : Kind) (L : SlabLaws K) (W : Swaps K) (C : Commutes K) (side : Side
   lines-sizes Left = (refl, refl)
   lines-sizes Right = (refl, refl)
 
-  pub multiplied-all : multiplyAll K system sa start s₀ ≡ update K v everywhere (λ r c x. product r c) s₀
+  pub multiplied-all : multiplyAll K system sa begin s₀ ≡ update K v everywhere (λ r c x. product r c) s₀
   multiplied-all =
-      (λ i. walk (lines-sizes side .1 i) (λ l. walk (lines-sizes side .0 i) (λ k. multiplyOne K system sa start k l)) s₀)
-      ∙ walk-cong (λ l. walk (orderOf side v) (λ k. multiplyOne K system sa start k l)) (λ l. walk (orderOf side v) (λ k. nthStep (l * orderOf side v + k))) (linesOf side v)
-      (λ l g s. walk-cong (λ k. multiplyOne K system sa start k l) (λ k. nthStep (l * orderOf side v + k)) (orderOf side v)
-      (λ k h s'. λ d. multiplyOne K system sa start (sym (digits-mod l h) d) (sym (digits-div l h) d) s')
+      (λ i. walk (lines-sizes side .1 i) (λ l. walk (lines-sizes side .0 i) (λ k. multiplyOne K system sa begin k l)) s₀)
+      ∙ walk-cong (λ l. walk (orderOf side v) (λ k. multiplyOne K system sa begin k l)) (λ l. walk (orderOf side v) (λ k. nthStep (l * orderOf side v + k))) (linesOf side v)
+      (λ l g s. walk-cong (λ k. multiplyOne K system sa begin k l) (λ k. nthStep (l * orderOf side v + k)) (orderOf side v)
+      (λ k h s'. λ d. multiplyOne K system sa begin (sym (digits-mod l h) d) (sym (digits-div l h) d) s')
       s)
       s₀
       ∙ walk-nested nthStep (orderOf side v) (linesOf side v) s₀
@@ -274,13 +274,13 @@ module _ (K : Kind) (L : SlabLaws K) (W : Swaps K) (C : Commutes K) (side : Side
 
 -- ---- as the engine meets it
 
-module _ (K : Kind) (y : System) (a : List (K .Cell)) (start : K .Elem → K .Elem) where
+module _ (K : Kind) (y : System) (a : List (K .Cell)) (begin : K .Elem → K .Elem) where
   -- one element, by parts
   pub multiply-one-is : (k l q m at : ℕ) (last : Bool) (x z : K .Elem) (s s' : List (K .Cell)) → last ≡ not (y .last) → m ≡ y .b .rows → q ≡ inOrder last m k
-      → at ≡ index (y .b) q l → x ≡ lineSum K y a s q l → z ≡ start x → s' ≡ K .put s at z → s' ≡ multiplyOne K y a start k l s
+      → at ≡ index (y .b) q l → x ≡ lineSum K y a s q l → z ≡ begin x → s' ≡ K .put s at z → s' ≡ multiplyOne K y a begin k l s
   unfolding multiplyOne
   multiply-one-is k l q m at last x z s s' turned counted here placed summed weighed e =
       let found : q ≡ inOrder (not (y .last)) (y .b .rows) k = here ∙ (λ i. inOrder (turned i) (counted i) k) in
       e
-      ∙ (λ i. K .put s (placed i) ((weighed ∙ ap start summed) i))
-      ∙ (λ i. K .put s (index (y .b) (found i) l) (start (lineSum K y a s (found i) l)))
+      ∙ (λ i. K .put s (placed i) ((weighed ∙ ap begin summed) i))
+      ∙ (λ i. K .put s (index (y .b) (found i) l) (begin (lineSum K y a s (found i) l)))

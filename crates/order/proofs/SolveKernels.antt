@@ -27,8 +27,8 @@ use Rattle.order.specs.Triangles.{timesIf, isLeft, scaledRight}
 
 -- ---- a call that is judged first
 
-module _ (K : Kind) (work : Outcome K) (lent : List (K .Cell)) where
-  stays : (a : Answer) → isDone a ≡ false → Gives K (attempt K a work lent) a lent
+module _ (K : Kind) (work : Outcome K) (entry : List (K .Cell)) where
+  stays : (a : Answer) → isDone a ≡ false → Gives K (attempt K a work entry) a entry
   stays Done h = absurd (none h)
     where
       none : true ≡ false → ⊥
@@ -39,13 +39,13 @@ module _ (K : Kind) (work : Outcome K) (lent : List (K .Cell)) where
   stays Overlap h = record { answer = refl; slab = refl }
   stays Singular h = record { answer = refl; slab = refl }
 
-  refused : (check r : Answer) (flag : Bool) → r ≡ check → flag ≡ isDone r → flag ≡ false → Gives K (attempt K check work lent) r lent
-  refused check r flag e d h = subst (λ (a : Answer). Gives K (attempt K a work lent) r lent) e (stays r (sym d ∙ h))
+  refused : (check r : Answer) (flag : Bool) → r ≡ check → flag ≡ isDone r → flag ≡ false → Gives K (attempt K check work entry) r entry
+  refused check r flag e d h = subst (λ (a : Answer). Gives K (attempt K a work entry) r entry) e (stays r (sym d ∙ h))
 
   worked : (check r : Answer) (flag : Bool) → r ≡ check → flag ≡ isDone r → flag ≡ true → (answer : Answer) (after : List (K .Cell))
-      → Gives K work answer after → Gives K (attempt K check work lent) answer after
+      → Gives K work answer after → Gives K (attempt K check work entry) answer after
   worked check r flag e d h answer after w =
-      subst (λ (a : Answer). Gives K (attempt K a work lent) answer after) (sym (check-done check r flag e d h)) w
+      subst (λ (a : Answer). Gives K (attempt K a work entry) answer after) (sym (check-done check r flag e d h)) w
 
 -- ---- trsv
 

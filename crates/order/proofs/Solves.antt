@@ -29,13 +29,13 @@ use Rattle.slab.specs.Elem.{elem}
 use Rattle.slab.specs.Distinct.{Distinct}
 use Rattle.blas.specs.Matrix.{Matrix, op}
 use Rattle.blas.specs.Outcome.{Outcome, Gives}
-use Rattle.blas.specs.Substitution.{unknownAt, unknown, brings, lastFirst, inOrder, leastSolved, turnOf, lineOf, elementsBefore, firstAt, less, byPivot, zeroPivot, solved, singular, substituted}
+use Rattle.blas.specs.Substitution.{unknownAt, unknown, brings, lastFirst, inOrder, leastSolved, turnOf, lineOf, elementsBefore, firstAt, minusTerms, byPivot, zeroPivot, solved, singular, substituted}
 use Rattle.blas.specs.Substitution as substitution
-use Rattle.blas.proofs.SubstitutionLaws.{in-order-lt, in-order-twice, first-is, first-none, first-lt, first-true, factor-pos}
+use Rattle.blas.proofs.SubstitutionLaws.{in-order-lt, in-order-twice, first-is, first-none, first-lt, first-true, first-le, factor-pos}
 use Rattle.order.specs.declared.System.{System}
 use Rattle.order.specs.Walk.{walk}
 use Rattle.order.specs.Triangles.{linesView, systemOf, coefficient}
-use Rattle.order.specs.Solve.{byDiag, zeroDiag, solveOne, solveUnknowns, zeroAfter, firstZero, anyZero, stops, answered, linesSolved, Solved}
+use Rattle.order.specs.Solve.{byDiag, zeroDiag, solveUnknown, solveUnknowns, zeroAfter, firstZero, anyZero, stops, answered, linesSolved, Solved}
 use Rattle.order.proofs.WalkLaws.{walk-cong, walk-nested, walk-rounds}
 use Rattle.order.proofs.InOrder.{Swaps}
 use Rattle.number.proofs.Commutes.{Commutes}
@@ -81,28 +81,28 @@ any-nowhere f n m k e g cleared = sym (none n f (λ i h. cleared .none i (omega 
 -- ---- one unknown, by parts
 
 module _ (K : Kind) (y : System) (a : List (K .Cell)) where
-  pub solve-one-is : (start : K .Elem → K .Elem) (k l m q from n : ℕ) (w x r z : K .Elem) (s s' : List (K .Cell)) → m ≡ y .b .rows → q ≡ inOrder (y .last) m k
-      → from ≡ leastSolved (y .last) m k → w ≡ elem K s (y .b) q l → x ≡ start w
-      → r ≡ less K x (λ p. K .mul (coefficient K y a q p) (elem K s (y .b) p l)) from k → z ≡ byDiag K (y .diag) (coefficient K y a q q) r
-      → n ≡ index (y .b) q l → s' ≡ K .put s n z → s' ≡ solveOne K y start a k l s
-  unfolding solveOne
-  solve-one-is start k l m q from n w x r z s s' counted here there taken started rest divided placed e =
+  pub solve-one-is : (begin : K .Elem → K .Elem) (k l m q from n : ℕ) (w x r z : K .Elem) (s s' : List (K .Cell)) → m ≡ y .b .rows → q ≡ inOrder (y .last) m k
+      → from ≡ leastSolved (y .last) m k → w ≡ elem K s (y .b) q l → x ≡ begin w
+      → r ≡ minusTerms K x (λ p. K .mul (coefficient K y a q p) (elem K s (y .b) p l)) from k → z ≡ byDiag K (y .diag) (coefficient K y a q q) r
+      → n ≡ index (y .b) q l → s' ≡ K .put s n z → s' ≡ solveUnknown K y begin a k l s
+  unfolding solveUnknown
+  solve-one-is begin k l m q from n w x r z s s' counted here there taken started rest divided placed e =
       e
-      ∙ (λ i. K .put s (placed i) ((divided ∙ ap (byDiag K (y .diag) (coefficient K y a q q)) (rest ∙ ap (λ (v : K .Elem). less K v (λ p. K .mul (coefficient K y a q p) (elem K s (y .b) p l)) from k) (started ∙ ap start taken))) i))
+      ∙ (λ i. K .put s (placed i) ((divided ∙ ap (byDiag K (y .diag) (coefficient K y a q q)) (rest ∙ ap (λ (v : K .Elem). minusTerms K v (λ p. K .mul (coefficient K y a q p) (elem K s (y .b) p l)) from k) (started ∙ ap begin taken))) i))
       ∙ (λ i. value (here i) (there i))
       ∙ ap (λ (c : ℕ). value (inOrder (y .last) c k) (leastSolved (y .last) c k)) counted
     where
       value : ℕ → ℕ → List (K .Cell)
       value u f =
           K .put s (index (y .b) u l)
-          (byDiag K (y .diag) (coefficient K y a u u) (less K (start (elem K s (y .b) u l)) (λ p. K .mul (coefficient K y a u p) (elem K s (y .b) p l)) f k))
+          (byDiag K (y .diag) (coefficient K y a u u) (minusTerms K (begin (elem K s (y .b) u l)) (λ p. K .mul (coefficient K y a u p) (elem K s (y .b) p l)) f k))
 
   -- the unknown that is solved first has no sum
-  pub first-one-is : (start : K .Elem → K .Elem) (l m q n : ℕ) (w x z : K .Elem) (s s' : List (K .Cell)) → m ≡ y .b .rows → q ≡ inOrder (y .last) m 0 → w ≡ elem K s (y .b) q l → x ≡ start w
-      → z ≡ byDiag K (y .diag) (coefficient K y a q q) x → n ≡ index (y .b) q l → s' ≡ K .put s n z → s' ≡ solveOne K y start a 0 l s
-  unfolding less
-  first-one-is start l m q n w x z s s' counted here taken started divided placed e =
-      solve-one-is start 0 l m q (leastSolved (y .last) m 0) n w x x z s s' counted here refl taken started refl divided placed e
+  pub first-one-is : (begin : K .Elem → K .Elem) (l m q n : ℕ) (w x z : K .Elem) (s s' : List (K .Cell)) → m ≡ y .b .rows → q ≡ inOrder (y .last) m 0 → w ≡ elem K s (y .b) q l → x ≡ begin w
+      → z ≡ byDiag K (y .diag) (coefficient K y a q q) x → n ≡ index (y .b) q l → s' ≡ K .put s n z → s' ≡ solveUnknown K y begin a 0 l s
+  unfolding minusTerms
+  first-one-is begin l m q n w x z s s' counted here taken started divided placed e =
+      solve-one-is begin 0 l m q (leastSolved (y .last) m 0) n w x x z s s' counted here refl taken started refl divided placed e
 
   pub meets-is : (k m q : ℕ) (b : Bool) → m ≡ y .b .rows → q ≡ inOrder (y .last) m k → b ≡ zeroDiag K (y .diag) (elem K a (y .a) q q) → b ≡ zeroAfter K y a k
   unfolding zeroAfter
@@ -140,7 +140,7 @@ brings-is : (K : Kind) (C : Commutes K) (side : Side) (t : Trans) (a : Matrix K)
 brings-is K C Left t a q p c x z e h = λ i. K .mul (e i) (h i)
 brings-is K C Right t a q p c x z e h = C .commutes c x ∙ (λ i. K .mul (h i) (e i))
 
-module _ (K : Kind) (side : Side) (uplo : UpLo) (t : Trans) (diag : Diag) (start : K .Elem → K .Elem) (va vb : View) (sa : List (K .Cell)) where
+module _ (K : Kind) (side : Side) (uplo : UpLo) (t : Trans) (diag : Diag) (begin : K .Elem → K .Elem) (va vb : View) (sa : List (K .Cell)) where
   abbrev y : System
   y = systemOf side uplo t diag va vb
 
@@ -153,26 +153,26 @@ module _ (K : Kind) (side : Side) (uplo : UpLo) (t : Trans) (diag : Diag) (start
   abbrev m : ℕ
   m = orderOf side vb
 
-  one-is : (C : Commutes K) (k l : ℕ) (s : List (K .Cell)) → solveOne K y start sa k l s ≡ substitution.solveOne K side uplo t diag start a vb k l s
-  unfolding solveOne substitution.solveOne
+  one-is : (C : Commutes K) (k l : ℕ) (s : List (K .Cell)) → solveUnknown K y begin sa k l s ≡ substitution.solveOne K side uplo t diag begin a vb k l s
+  unfolding solveUnknown substitution.solveOne
   one-is C k l s = ap from-order (order-is side vb) ∙ at-order (inOrder last m k) (leastSolved last m k)
     where
       from-order : ℕ → List (K .Cell)
       from-order c =
           K .put s (index (linesView side vb) (inOrder last c k) l)
           (byDiag K diag (coefficient K y sa (inOrder last c k) (inOrder last c k))
-          (less K (start (elem K s (linesView side vb) (inOrder last c k) l))
+          (minusTerms K (begin (elem K s (linesView side vb) (inOrder last c k) l))
           (λ p. K .mul (coefficient K y sa (inOrder last c k) p) (elem K s (linesView side vb) p l))
           (leastSolved last c k) k))
 
       at-order : (q from : ℕ)
           → K .put s (index (linesView side vb) q l)
-          (byDiag K diag (coefficient K y sa q q) (less K (start (elem K s (linesView side vb) q l)) (λ p. K .mul (coefficient K y sa q p) (elem K s (linesView side vb) p l)) from k))
-          ≡ K .put s (unknownAt side vb q l) (byPivot K diag t a q (less K (start (unknown K side s vb q l)) (λ p. brings K side t a q p (unknown K side s vb p l)) from k))
+          (byDiag K diag (coefficient K y sa q q) (minusTerms K (begin (elem K s (linesView side vb) q l)) (λ p. K .mul (coefficient K y sa q p) (elem K s (linesView side vb) p l)) from k))
+          ≡ K .put s (unknownAt side vb q l) (byPivot K diag t a q (minusTerms K (begin (unknown K side s vb q l)) (λ p. brings K side t a q p (unknown K side s vb p l)) from k))
       at-order q from =
           λ i. K .put s (lines-index side vb q l i)
           (by-diag-is K diag t a q _ _ _ (coefficient-is K uplo t diag va vb sa side q q ∙ same-pivot K side t a q)
-          (λ j. less K (start (lines-elem K s side vb q l j))
+          (λ j. minusTerms K (begin (lines-elem K s side vb q l j))
           (λ p. brings-is K C side t a q p _ _ _ (coefficient-is K uplo t diag va vb sa side q p) (lines-elem K s side vb p l) j) from k)
           i)
 
@@ -189,9 +189,9 @@ module _ (K : Kind) (side : Side) (uplo : UpLo) (t : Trans) (diag : Diag) (start
 
   -- the n-th element in solving order
   abbrev nth : ℕ → List (K .Cell) → List (K .Cell)
-  nth n = substitution.solveOne K side uplo t diag start a vb (turnOf side vb n) (lineOf side vb n)
+  nth n = substitution.solveOne K side uplo t diag begin a vb (turnOf side vb n) (lineOf side vb n)
 
-  solved-walk : (n : ℕ) (s : List (K .Cell)) → walk n nth s ≡ solved K side uplo t diag start a vb n s
+  solved-walk : (n : ℕ) (s : List (K .Cell)) → walk n nth s ≡ solved K side uplo t diag begin a vb n s
   unfolding walk solved
   solved-walk zero s = refl
   solved-walk (suc n) s = ap (nth n) (solved-walk n s)
@@ -205,7 +205,7 @@ line-digits : (side : Side) (v : View) (o i : ℕ) → i < v .rows → lineOf si
 line-digits Left v o i h = digits-div o h
 line-digits Right v o i h = digits-mod o h
 
-module _ (K : Kind) (C : Commutes K) (side : Side) (uplo : UpLo) (t : Trans) (diag : Diag) (start : K .Elem → K .Elem) (va vb : View) (sa s₀ : List (K .Cell)) where
+module _ (K : Kind) (C : Commutes K) (side : Side) (uplo : UpLo) (t : Trans) (diag : Diag) (begin : K .Elem → K .Elem) (va vb : View) (sa s₀ : List (K .Cell)) where
   abbrev sys : System
   sys = systemOf side uplo t diag va vb
 
@@ -213,25 +213,25 @@ module _ (K : Kind) (C : Commutes K) (side : Side) (uplo : UpLo) (t : Trans) (di
   mat = elem K sa va
 
   digit-is : (o i : ℕ) → i < vb .rows → (s : List (K .Cell))
-      → solveOne K sys start sa (turn side i o) (line side i o) s ≡ nth K side uplo t diag start va vb sa (o * vb .rows + i) s
+      → solveUnknown K sys begin sa (turn side i o) (line side i o) s ≡ nth K side uplo t diag begin va vb sa (o * vb .rows + i) s
   digit-is o i h s =
-      one-is K side uplo t diag start va vb sa C (turn side i o) (line side i o) s
-      ∙ (λ j. substitution.solveOne K side uplo t diag start mat vb (sym (turn-digits side vb o i h) j) (sym (line-digits side vb o i h) j) s)
+      one-is K side uplo t diag begin va vb sa C (turn side i o) (line side i o) s
+      ∙ (λ j. substitution.solveOne K side uplo t diag begin mat vb (sym (turn-digits side vb o i h) j) (sym (line-digits side vb o i h) j) s)
 
   -- c columns of B
-  columns-are : (c : ℕ) → walk c (λ o. walk (vb .rows) (λ i. solveOne K sys start sa (turn side i o) (line side i o))) s₀ ≡ solved K side uplo t diag start mat vb (c * vb .rows) s₀
+  columns-are : (c : ℕ) → walk c (λ o. walk (vb .rows) (λ i. solveUnknown K sys begin sa (turn side i o) (line side i o))) s₀ ≡ solved K side uplo t diag begin mat vb (c * vb .rows) s₀
   columns-are c =
-      walk-cong (λ o. walk (vb .rows) (λ i. solveOne K sys start sa (turn side i o) (line side i o))) (λ o. walk (vb .rows) (λ i. nth K side uplo t diag start va vb sa (o * vb .rows + i))) c
-      (λ o h s. walk-cong (λ i. solveOne K sys start sa (turn side i o) (line side i o)) (λ i. nth K side uplo t diag start va vb sa (o * vb .rows + i)) (vb .rows) (λ i g r. digit-is o i g r) s)
+      walk-cong (λ o. walk (vb .rows) (λ i. solveUnknown K sys begin sa (turn side i o) (line side i o))) (λ o. walk (vb .rows) (λ i. nth K side uplo t diag begin va vb sa (o * vb .rows + i))) c
+      (λ o h s. walk-cong (λ i. solveUnknown K sys begin sa (turn side i o) (line side i o)) (λ i. nth K side uplo t diag begin va vb sa (o * vb .rows + i)) (vb .rows) (λ i g r. digit-is o i g r) s)
       s₀
-      ∙ walk-nested (nth K side uplo t diag start va vb sa) (vb .rows) c s₀
-      ∙ solved-walk K side uplo t diag start va vb sa (c * vb .rows) s₀
+      ∙ walk-nested (nth K side uplo t diag begin va vb sa) (vb .rows) c s₀
+      ∙ solved-walk K side uplo t diag begin va vb sa (c * vb .rows) s₀
 
   -- the first k elements of the first column
-  begun-is : (k : ℕ) → k ≤ vb .rows → walk k (λ i. solveOne K sys start sa (turn side i 0) (line side i 0)) s₀ ≡ solved K side uplo t diag start mat vb k s₀
+  begun-is : (k : ℕ) → k ≤ vb .rows → walk k (λ i. solveUnknown K sys begin sa (turn side i 0) (line side i 0)) s₀ ≡ solved K side uplo t diag begin mat vb k s₀
   begun-is k h =
-      walk-cong (λ i. solveOne K sys start sa (turn side i 0) (line side i 0)) (nth K side uplo t diag start va vb sa) k (λ i g r. digit-is 0 i (omega arith) r ∙ ap (λ (n : ℕ). nth K side uplo t diag start va vb sa n r) (from-zero i)) s₀
-      ∙ solved-walk K side uplo t diag start va vb sa k s₀
+      walk-cong (λ i. solveUnknown K sys begin sa (turn side i 0) (line side i 0)) (nth K side uplo t diag begin va vb sa) k (λ i g r. digit-is 0 i (omega arith) r ∙ ap (λ (n : ℕ). nth K side uplo t diag begin va vb sa n r) (from-zero i)) s₀
+      ∙ solved-walk K side uplo t diag begin va vb sa k s₀
     where
       from-zero : (i : ℕ) → 0 * vb .rows + i ≡ i
       from-zero i = omega arith
@@ -261,10 +261,10 @@ some-lines : (side : Side) (v : View) → 0 < v .rows * v .cols → 0 < (linesVi
 some-lines Left v h = factor-pos 0 (v .cols) (v .rows) (subst (λ (n : ℕ). 0 < n) (mul-comm (v .rows) (v .cols)) h)
 some-lines Right v h = factor-pos 0 (v .rows) (v .cols) h
 
-module _ (K : Kind) (side : Side) (uplo : UpLo) (t : Trans) (diag : Diag) (start : K .Elem → K .Elem) (va vb : View) (sa s₀ : List (K .Cell))
+module _ (K : Kind) (side : Side) (uplo : UpLo) (t : Trans) (diag : Diag) (begin : K .Elem → K .Elem) (va vb : View) (sa s₀ : List (K .Cell))
     (reached : ℕ → List (K .Cell)) (whole : List (K .Cell))
-    (reaches : (k : ℕ) → k < (linesView side vb) .rows → reached k ≡ solved K side uplo t diag start (elem K sa va) vb (elementsBefore side vb k) s₀)
-    (wholly : whole ≡ solved K side uplo t diag start (elem K sa va) vb (vb .rows * vb .cols) s₀)
+    (reaches : (k : ℕ) → k < (linesView side vb) .rows → reached k ≡ solved K side uplo t diag begin (elem K sa va) vb (elementsBefore side vb k) s₀)
+    (wholly : whole ≡ solved K side uplo t diag begin (elem K sa va) vb (vb .rows * vb .cols) s₀)
     (r : Answer) (s : List (K .Cell)) (h : Ends K (systemOf side uplo t diag va vb) sa reached whole r s) where
   abbrev sys' : System
   sys' = systemOf side uplo t diag va vb
@@ -288,7 +288,7 @@ module _ (K : Kind) (side : Side) (uplo : UpLo) (t : Trans) (diag : Diag) (start
   zeroAt q = zeroPivot K diag mat' q
 
   abbrev gives : Type 0
-  gives = Gives K (substituted K side uplo t diag start mat' vb s₀) r s
+  gives = Gives K (substituted K side uplo t diag begin mat' vb s₀) r s
 
   -- it stops at a zero pivot
   module _ (e : stops sys' first ≡ true) where
@@ -301,9 +301,9 @@ module _ (K : Kind) (side : Side) (uplo : UpLo) (t : Trans) (diag : Diag) (start
     lines = ltb-true 0 ((linesView side vb) .cols) (and-left (ltb 0 ((linesView side vb) .cols)) (ltb first ((linesView side vb) .rows)) e)
 
     zero-there : zeroAt (inOrder lastly order first) ≡ true
-    zero-there = sym (zero-is K side uplo t diag start va vb sa first) ∙ first-true ((linesView side vb) .rows) (zeroAfter K sys' sa) below
+    zero-there = sym (zero-is K side uplo t diag begin va vb sa first) ∙ first-true ((linesView side vb) .rows) (zeroAfter K sys' sa) below
 
-    is-singular : singular K side uplo t diag start mat' vb ≡ true
+    is-singular : singular K side uplo t diag begin mat' vb ≡ true
     is-singular =
         and-both (ltb 0 total) (any order zeroAt) (lt-ltb 0 total (some-elements side vb first below lines))
         (found order zeroAt (inOrder lastly order first) (in-order-lt lastly order first (subst (λ (n : ℕ). first < n) (order-is side vb) below)) zero-there)
@@ -311,27 +311,27 @@ module _ (K : Kind) (side : Side) (uplo : UpLo) (t : Trans) (diag : Diag) (start
     gives-stop : gives
     unfolding substituted
     gives-stop =
-        gives-first K _ _ r s (singular K side uplo t diag start mat' vb) is-singular
+        gives-first K _ _ r s (singular K side uplo t diag begin mat' vb) is-singular
         (record {
           answer = ap answerNumber (h .answer ∙ ap answered e);
           slab =
               h .slab
               ∙ ap (λ (b : Bool). cond b (reached first) whole) e
               ∙ reaches first below
-              ∙ ap (λ (k : ℕ). solved K side uplo t diag start mat' vb (elementsBefore side vb k) s₀) (first-is-first K side uplo t diag start va vb sa);
+              ∙ ap (λ (k : ℕ). solved K side uplo t diag begin mat' vb (elementsBefore side vb k) s₀) (first-is-first K side uplo t diag begin va vb sa);
         })
 
   -- it does not
   module _ (e : stops sys' first ≡ false) where
-    not-singular : singular K side uplo t diag start mat' vb ≡ false
+    not-singular : singular K side uplo t diag begin mat' vb ≡ false
     unfolding stops
     not-singular =
-        is-false (singular K side uplo t diag start mat' vb)
+        is-false (singular K side uplo t diag begin mat' vb)
         (λ g.
         let w = finds order zeroAt (and-right (ltb 0 total) (any order zeroAt) g) in
         let q : ℕ = inOrder lastly order (w .0) in
         let here : q < (linesView side vb) .rows = subst (λ (n : ℕ). q < n) (sym (order-is side vb)) (in-order-lt lastly order (w .0) (w .1)) in
-        let zero-here : zeroAfter K sys' sa q ≡ true = zero-is K side uplo t diag start va vb sa q ∙ ap zeroAt (in-order-twice lastly order (w .0) (w .1)) ∙ w .2 in
+        let zero-here : zeroAfter K sys' sa q ≡ true = zero-is K side uplo t diag begin va vb sa q ∙ ap zeroAt (in-order-twice lastly order (w .0) (w .1)) ∙ w .2 in
         clash
         (and-both (ltb 0 ((linesView side vb) .cols)) (ltb first ((linesView side vb) .rows))
         (lt-ltb 0 ((linesView side vb) .cols) (some-lines side vb (ltb-true 0 total (and-left (ltb 0 total) (any order zeroAt) g))))
@@ -341,7 +341,7 @@ module _ (K : Kind) (side : Side) (uplo : UpLo) (t : Trans) (diag : Diag) (start
     gives-all : gives
     unfolding substituted
     gives-all =
-        gives-second K _ _ r s (singular K side uplo t diag start mat' vb) not-singular
+        gives-second K _ _ r s (singular K side uplo t diag begin mat' vb) not-singular
         (record {
           answer = ap answerNumber (h .answer ∙ ap answered e);
           slab = h .slab ∙ ap (λ (b : Bool). cond b (reached first) whole) e ∙ wholly;
@@ -355,15 +355,6 @@ module _ (K : Kind) (side : Side) (uplo : UpLo) (t : Trans) (diag : Diag) (start
       go false e = gives-all e
 
 -- ---- how far a solve goes
-
-first-le : (n : ℕ) (f : ℕ → Bool) → firstAt n f ≤ n
-unfolding firstAt
-first-le zero f = omega arith
-first-le (suc n) f = go (f 0) (first-le n (λ k. f (suc k)))
-  where
-    go : (b : Bool) → firstAt n (λ k. f (suc k)) ≤ n → cond b zero (suc (firstAt n (λ k. f (suc k)))) ≤ suc n
-    go true h = omega arith
-    go false h = omega arith
 
 module _ (K : Kind) (y : System) (a : List (K .Cell)) where
   abbrev reach : ℕ
@@ -399,54 +390,54 @@ module _ (K : Kind) (y : System) (a : List (K .Cell)) where
 
 -- ---- a solve by lines is the definition's
 
-module _ (K : Kind) (C : Commutes K) (uplo : UpLo) (t : Trans) (diag : Diag) (start : K .Elem → K .Elem) (va vb : View) (sa s₀ : List (K .Cell)) (r : Answer) (s : List (K .Cell)) where
+module _ (K : Kind) (C : Commutes K) (uplo : UpLo) (t : Trans) (diag : Diag) (begin : K .Elem → K .Elem) (va vb : View) (sa s₀ : List (K .Cell)) (r : Answer) (s : List (K .Cell)) where
   abbrev leftly : System
   leftly = systemOf Left uplo t diag va vb
 
   abbrev rightly : System
   rightly = systemOf Right uplo t diag va vb
 
-  left-gives : SlabLaws K → Swaps K → Distinct vb → Solved K leftly start sa s₀ r s → Gives K (substituted K Left uplo t diag start (elem K sa va) vb s₀) r s
+  left-gives : SlabLaws K → Swaps K → Distinct vb → Solved K leftly begin sa s₀ r s → Gives K (substituted K Left uplo t diag begin (elem K sa va) vb s₀) r s
   unfolding walk
   left-gives L W apart h =
-      solve-gives K Left uplo t diag start va vb sa s₀
-      (λ k. walk k (λ i. solveOne K leftly start sa i 0) s₀)
-      (walk (vb .cols) (λ l. walk (vb .rows) (λ k. solveOne K leftly start sa k l)) s₀)
-      (λ k g. begun-is K C Left uplo t diag start va vb sa s₀ k (omega arith))
-      (columns-are K C Left uplo t diag start va vb sa s₀ (vb .cols) ∙ ap (λ (n : ℕ). solved K Left uplo t diag start (elem K sa va) vb n s₀) (mul-comm (vb .cols) (vb .rows)))
+      solve-gives K Left uplo t diag begin va vb sa s₀
+      (λ k. walk k (λ i. solveUnknown K leftly begin sa i 0) s₀)
+      (walk (vb .cols) (λ l. walk (vb .rows) (λ k. solveUnknown K leftly begin sa k l)) s₀)
+      (λ k g. begun-is K C Left uplo t diag begin va vb sa s₀ k (omega arith))
+      (columns-are K C Left uplo t diag begin va vb sa s₀ (vb .cols) ∙ ap (λ (n : ℕ). solved K Left uplo t diag begin (elem K sa va) vb n s₀) (mul-comm (vb .cols) (vb .rows)))
       r
       s
       (record { answer = h .answer; slab = h .slab ∙ by-lines (stops leftly (reach K leftly sa)) refl })
     where
-      by-lines : (b : Bool) → stops leftly (reach K leftly sa) ≡ b → solveUnknowns K leftly start sa (linesSolved Left b (vb .cols)) (reach K leftly sa) s₀
-          ≡ cond b (walk (reach K leftly sa) (λ i. solveOne K leftly start sa i 0) s₀) (walk (vb .cols) (λ l. walk (vb .rows) (λ k. solveOne K leftly start sa k l)) s₀)
+      by-lines : (b : Bool) → stops leftly (reach K leftly sa) ≡ b → solveUnknowns K leftly begin sa (linesSolved Left b (vb .cols)) (reach K leftly sa) s₀
+          ≡ cond b (walk (reach K leftly sa) (λ i. solveUnknown K leftly begin sa i 0) s₀) (walk (vb .cols) (λ l. walk (vb .rows) (λ k. solveUnknown K leftly begin sa k l)) s₀)
       by-lines true e = refl
       by-lines false e =
-          line-after-line K L W leftly start sa apart (reach K leftly sa) (reach-le K leftly sa) s₀
-          ∙ walk-cong (λ l. walk (reach K leftly sa) (λ k. solveOne K leftly start sa k l)) (λ l. walk (vb .rows) (λ k. solveOne K leftly start sa k l)) (vb .cols)
-          (λ l h q. ap (λ (n : ℕ). walk n (λ k. solveOne K leftly start sa k l) q) (all-solved K leftly sa e l h))
+          line-after-line K L W leftly begin sa apart (reach K leftly sa) (reach-le K leftly sa) s₀
+          ∙ walk-cong (λ l. walk (reach K leftly sa) (λ k. solveUnknown K leftly begin sa k l)) (λ l. walk (vb .rows) (λ k. solveUnknown K leftly begin sa k l)) (vb .cols)
+          (λ l h q. ap (λ (n : ℕ). walk n (λ k. solveUnknown K leftly begin sa k l) q) (all-solved K leftly sa e l h))
           s₀
 
-  right-gives : Solved K rightly start sa s₀ r s → Gives K (substituted K Right uplo t diag start (elem K sa va) vb s₀) r s
+  right-gives : Solved K rightly begin sa s₀ r s → Gives K (substituted K Right uplo t diag begin (elem K sa va) vb s₀) r s
   right-gives h =
-      solve-gives K Right uplo t diag start va vb sa s₀
-      (λ k. solveUnknowns K rightly start sa (vb .rows) k s₀)
-      (solveUnknowns K rightly start sa (vb .rows) (vb .cols) s₀)
-      (λ k g. columns-are K C Right uplo t diag start va vb sa s₀ k)
-      (columns-are K C Right uplo t diag start va vb sa s₀ (vb .cols) ∙ ap (λ (n : ℕ). solved K Right uplo t diag start (elem K sa va) vb n s₀) (mul-comm (vb .cols) (vb .rows)))
+      solve-gives K Right uplo t diag begin va vb sa s₀
+      (λ k. solveUnknowns K rightly begin sa (vb .rows) k s₀)
+      (solveUnknowns K rightly begin sa (vb .rows) (vb .cols) s₀)
+      (λ k g. columns-are K C Right uplo t diag begin va vb sa s₀ k)
+      (columns-are K C Right uplo t diag begin va vb sa s₀ (vb .cols) ∙ ap (λ (n : ℕ). solved K Right uplo t diag begin (elem K sa va) vb n s₀) (mul-comm (vb .cols) (vb .rows)))
       r
       s
       (record { answer = h .answer; slab = h .slab ∙ by-unknowns (stops rightly (reach K rightly sa)) refl })
     where
-      by-unknowns : (b : Bool) → stops rightly (reach K rightly sa) ≡ b → solveUnknowns K rightly start sa (vb .rows) (reach K rightly sa) s₀
-          ≡ cond b (solveUnknowns K rightly start sa (vb .rows) (reach K rightly sa) s₀) (solveUnknowns K rightly start sa (vb .rows) (vb .cols) s₀)
+      by-unknowns : (b : Bool) → stops rightly (reach K rightly sa) ≡ b → solveUnknowns K rightly begin sa (vb .rows) (reach K rightly sa) s₀
+          ≡ cond b (solveUnknowns K rightly begin sa (vb .rows) (reach K rightly sa) s₀) (solveUnknowns K rightly begin sa (vb .rows) (vb .cols) s₀)
       by-unknowns true e = refl
-      by-unknowns false e = walk-rounds (solveOne K rightly start sa) (reach K rightly sa) (vb .cols) (vb .rows) (all-solved K rightly sa e) s₀
+      by-unknowns false e = walk-rounds (solveUnknown K rightly begin sa) (reach K rightly sa) (vb .cols) (vb .rows) (all-solved K rightly sa e) s₀
 
-  pub solved-gives : SlabLaws K → Swaps K → (side : Side) (y : System) → y ≡ systemOf side uplo t diag va vb → Distinct vb → Solved K y start sa s₀ r s
-      → Gives K (substituted K side uplo t diag start (elem K sa va) vb s₀) r s
-  solved-gives L W Left y made apart h = left-gives L W apart (subst (λ (x : System). Solved K x start sa s₀ r s) made h)
-  solved-gives L W Right y made apart h = right-gives (subst (λ (x : System). Solved K x start sa s₀ r s) made h)
+  pub solved-gives : SlabLaws K → Swaps K → (side : Side) (y : System) → y ≡ systemOf side uplo t diag va vb → Distinct vb → Solved K y begin sa s₀ r s
+      → Gives K (substituted K side uplo t diag begin (elem K sa va) vb s₀) r s
+  solved-gives L W Left y made apart h = left-gives L W apart (subst (λ (x : System). Solved K x begin sa s₀ r s) made h)
+  solved-gives L W Right y made apart h = right-gives (subst (λ (x : System). Solved K x begin sa s₀ r s) made h)
 
 -- ---- the ways out of a solve
 
@@ -459,29 +450,29 @@ lines-in Left y k n c true told wide e =
 lines-in Left y k n c false told wide e = omega arith
 lines-in Right y k n c b told wide e = omega arith
 
-module _ (K : Kind) (y : System) (start : K .Elem → K .Elem) (a s₀ : List (K .Cell)) where
+module _ (K : Kind) (y : System) (begin : K .Elem → K .Elem) (a s₀ : List (K .Cell)) where
   pub lines-solved : (k n c : ℕ) (b : Bool) (r : Answer) (s : List (K .Cell)) → k ≡ firstZero K y a → b ≡ stops y k → n ≡ y .b .cols → c ≡ linesSolved (y .side) b n
-      → r ≡ answered b → s ≡ solveUnknowns K y start a c k s₀ → Solved K y start a s₀ r s
+      → r ≡ answered b → s ≡ solveUnknowns K y begin a c k s₀ → Solved K y begin a s₀ r s
   lines-solved k n c b r s met told wide counted answers e =
       let t : b ≡ stops y (firstZero K y a) = told ∙ ap (stops y) met in
       record {
         answer = answers ∙ ap answered t;
-        slab = e ∙ (λ i. solveUnknowns K y start a ((counted ∙ (λ j. linesSolved (y .side) (t j) (wide j))) i) (met i) s₀);
+        slab = e ∙ (λ i. solveUnknowns K y begin a ((counted ∙ (λ j. linesSolved (y .side) (t j) (wide j))) i) (met i) s₀);
       }
 
   -- a vector, of one line
-  module _ (k m : ℕ) (s : List (K .Cell)) (one : y .b .cols ≡ 1) (counted : m ≡ y .b .rows) (met : k ≡ firstZero K y a) (e : s ≡ walk k (λ i. solveOne K y start a i 0) s₀) where
+  module _ (k m : ℕ) (s : List (K .Cell)) (one : y .b .cols ≡ 1) (counted : m ≡ y .b .rows) (met : k ≡ firstZero K y a) (e : s ≡ walk k (λ i. solveUnknown K y begin a i 0) s₀) where
     one-line : (side : Side) (b : Bool) → 1 ≡ linesSolved side b (y .b .cols)
     one-line Left true = refl
     one-line Left false = sym one
     one-line Right b = sym one
 
-    vector-left : s ≡ solveUnknowns K y start a (linesSolved (y .side) (stops y (firstZero K y a)) (y .b .cols)) (firstZero K y a) s₀
+    vector-left : s ≡ solveUnknowns K y begin a (linesSolved (y .side) (stops y (firstZero K y a)) (y .b .cols)) (firstZero K y a) s₀
     unfolding walk
-    vector-left = e ∙ (λ i. solveUnknowns K y start a (one-line (y .side) (stops y (firstZero K y a)) i) (met i) s₀)
+    vector-left = e ∙ (λ i. solveUnknowns K y begin a (one-line (y .side) (stops y (firstZero K y a)) i) (met i) s₀)
 
-    pub vector-stopped : k < m → Solved K y start a s₀ Singular s
+    pub vector-stopped : k < m → Solved K y begin a s₀ Singular s
     vector-stopped h = record { answer = sym (ap answered (stops-below K y a (omega arith) (omega (arith, h, met, counted)))); slab = vector-left }
 
-    pub vector-done : m ≤ k → Solved K y start a s₀ Done s
+    pub vector-done : m ≤ k → Solved K y begin a s₀ Done s
     vector-done h = record { answer = sym (ap answered (stops-not K y a (omega (arith, h, met, counted)))); slab = vector-left }

@@ -16,7 +16,7 @@ use Rattle.view.specs.Place.{index, opViewOf, isConj}
 use Rattle.view.specs.TransposeLaws.{transposed-index, transposed-accepted, op-accepted}
 use Rattle.view.specs.Steps.{Accepted}
 use Rattle.view.specs.Vector.{columnOf}
-use Rattle.slab.specs.Elem.{elem, Shows}
+use Rattle.slab.specs.Elem.{elem, Within}
 use Rattle.slab.specs.Run.{Spans}
 use Rattle.blas.specs.Matrix.{Matrix, op}
 use Rattle.blas.specs.Substitution.{unknownAt, unknown}
@@ -116,12 +116,12 @@ module _ (y : System) (la lb : ℕ) where
   pub ready-kept : (lb' : ℕ) → Ready y la lb → lb' ≡ lb → Ready y la lb'
   ready-kept lb' r kept = subst (λ (n : ℕ). Ready y la n) (sym kept) r
 
-  pub pivot-shown : (q : ℕ) → Pivots y la → q < y .b .rows → Shows (y .a) la q q
+  pub pivot-shown : (q : ℕ) → Pivots y la → q < y .b .rows → Within (y .a) la q q
   pivot-shown q r h =
       record { fits = r .a; row = subst (λ (m : ℕ). q < m) (sym (r .rows)) h; col = subst (λ (m : ℕ). q < m) (sym (r .cols)) h }
 
   module _ (r : Ready y la lb) where
-    pub unknown-shown : (p l : ℕ) → p < y .b .rows → l < y .b .cols → Shows (y .b) lb p l
+    pub unknown-shown : (p l : ℕ) → p < y .b .rows → l < y .b .cols → Within (y .b) lb p l
     unknown-shown p l h g = record { fits = r .b; row = h; col = g }
 
     -- n terms of row q by column l
@@ -145,7 +145,7 @@ module _ (y : System) (la lb : ℕ) where
 
 -- ---- an element of a row of B, whose slab keeps its length
 
-pub in-row : (vb : View) (lb lb' i j n : ℕ) → Accepted vb lb → lb' ≡ lb → i < vb .rows → n ≡ vb .cols → j < n → Shows vb lb' i j
+pub in-row : (vb : View) (lb lb' i j n : ℕ) → Accepted vb lb → lb' ≡ lb → i < vb .rows → n ≡ vb .cols → j < n → Within vb lb' i j
 in-row vb lb lb' i j n a kept h e g =
     record { fits = subst (λ (x : ℕ). Accepted vb x) (sym kept) a; row = h; col = subst (λ (x : ℕ). j < x) e g }
 

@@ -7,7 +7,7 @@ use Rattle.view.specs.declared.Diag.{Diag}
 use Rattle.view.specs.declared.Diag.the-variants.{NonUnit, Unit}
 use Rattle.view.specs.Place.{index}
 use Rattle.slab.specs.Elem.{elem}
-use Rattle.slab.specs.Run.{more}
+use Rattle.slab.specs.Run.{plusTerms}
 use Rattle.blas.specs.Substitution.{inOrder}
 use Rattle.order.specs.declared.System.{System}
 use Rattle.order.specs.Triangles.{coefficient}
@@ -20,8 +20,8 @@ ownDiag K Unit c = K .one
 
 module _ (K : Kind) (y : System) (a : List (K .Cell)) where
   -- what element p of line l brings into element q, and what element q brings itself
-  abbrev pub term : List (K .Cell) → ℕ → ℕ → ℕ → K .Elem
-  term s q l p = K .mul (coefficient K y a q p) (elem K s (y .b) p l)
+  abbrev pub lineTerm : List (K .Cell) → ℕ → ℕ → ℕ → K .Elem
+  lineTerm s q l p = K .mul (coefficient K y a q p) (elem K s (y .b) p l)
 
   abbrev pub own : List (K .Cell) → ℕ → ℕ → K .Elem
   own s q l = K .mul (ownDiag K (y .diag) (coefficient K y a q q)) (elem K s (y .b) q l)
@@ -30,14 +30,14 @@ module _ (K : Kind) (y : System) (a : List (K .Cell)) where
   unfoldable pub lineSum : List (K .Cell) → ℕ → ℕ → K .Elem
   lineSum s q l =
       cond (y .last)
-      (more K (K .add (K .zero) (own s q l)) (term s q l) (suc q) (y .b .rows - suc q))
-      (K .add (more K (K .zero) (term s q l) 0 q) (own s q l))
+      (plusTerms K (K .add (K .zero) (own s q l)) (lineTerm s q l) (suc q) (y .b .rows - suc q))
+      (K .add (plusTerms K (K .zero) (lineTerm s q l) 0 q) (own s q l))
 
-  module _ (start : K .Elem → K .Elem) where
+  module _ (begin : K .Elem → K .Elem) where
     -- the element of line l that is multiplied after k others: against solving order
     unfoldable pub multiplyOne : ℕ → ℕ → List (K .Cell) → List (K .Cell)
     multiplyOne k l s =
-        K .put s (index (y .b) (inOrder (not (y .last)) (y .b .rows) k) l) (start (lineSum s (inOrder (not (y .last)) (y .b .rows) k) l))
+        K .put s (index (y .b) (inOrder (not (y .last)) (y .b .rows) k) l) (begin (lineSum s (inOrder (not (y .last)) (y .b .rows) k) l))
 
     -- the first m elements of line l, and all of B
     abbrev pub multiplyLine : ℕ → ℕ → List (K .Cell) → List (K .Cell)

@@ -14,7 +14,7 @@ use Rattle.view.specs.declared.Side.the-variants.{Left, Right}
 use Rattle.view.specs.Any.{any}
 use Rattle.view.specs.Place.{index}
 use Rattle.slab.specs.Elem.{elem}
-use Rattle.blas.specs.Substitution.{inOrder, leastSolved, less, firstAt}
+use Rattle.blas.specs.Substitution.{inOrder, leastSolved, minusTerms, firstAt}
 use Rattle.order.specs.declared.System.{System}
 use Rattle.order.specs.Triangles.{coefficient}
 use Rattle.order.specs.Walk.{walk}
@@ -29,20 +29,20 @@ abbrev pub zeroDiag : (K : Kind) → Diag → K .Elem → Bool
 zeroDiag K NonUnit c = K .isZero c
 zeroDiag K Unit c = false
 
-module _ (K : Kind) (y : System) (start : K .Elem → K .Elem) (a : List (K .Cell)) where
+module _ (K : Kind) (y : System) (begin : K .Elem → K .Elem) (a : List (K .Cell)) where
   -- unknown q of line l, with the k unknowns before it solved
-  abbrev pub solution : ℕ → ℕ → ℕ → List (K .Cell) → K .Elem
-  solution k q l s =
+  abbrev pub unknownValue : ℕ → ℕ → ℕ → List (K .Cell) → K .Elem
+  unknownValue k q l s =
       byDiag K (y .diag) (coefficient K y a q q)
-      (less K (start (elem K s (y .b) q l)) (λ p. K .mul (coefficient K y a q p) (elem K s (y .b) p l)) (leastSolved (y .last) (y .b .rows) k) k)
+      (minusTerms K (begin (elem K s (y .b) q l)) (λ p. K .mul (coefficient K y a q p) (elem K s (y .b) p l)) (leastSolved (y .last) (y .b .rows) k) k)
 
   -- the unknown of line l that is solved after k others
-  unfoldable pub solveOne : ℕ → ℕ → List (K .Cell) → List (K .Cell)
-  solveOne k l s = K .put s (index (y .b) (inOrder (y .last) (y .b .rows) k) l) (solution k (inOrder (y .last) (y .b .rows) k) l s)
+  unfoldable pub solveUnknown : ℕ → ℕ → List (K .Cell) → List (K .Cell)
+  solveUnknown k l s = K .put s (index (y .b) (inOrder (y .last) (y .b .rows) k) l) (unknownValue k (inOrder (y .last) (y .b .rows) k) l s)
 
   -- the unknown after k others in the first n lines, and the first m unknowns there
   abbrev pub solveAcross : ℕ → ℕ → List (K .Cell) → List (K .Cell)
-  solveAcross n k s = walk n (λ l. solveOne k l) s
+  solveAcross n k s = walk n (λ l. solveUnknown k l) s
 
   abbrev pub solveUnknowns : ℕ → ℕ → List (K .Cell) → List (K .Cell)
   solveUnknowns n m s = walk m (λ k. solveAcross n k) s
@@ -71,6 +71,6 @@ linesSolved Left stopped n = cond stopped 1 n
 linesSolved Right stopped n = n
 
 -- what a solve answers, and what it leaves
-pub record Solved (K : Kind) (y : System) (start : K .Elem → K .Elem) (a s₀ : List (K .Cell)) (r : Answer) (s : List (K .Cell)) : Type 0 where
+pub record Solved (K : Kind) (y : System) (begin : K .Elem → K .Elem) (a s₀ : List (K .Cell)) (r : Answer) (s : List (K .Cell)) : Type 0 where
   pub answer : r ≡ answered (stops y (firstZero K y a))
-  pub slab : s ≡ solveUnknowns K y start a (linesSolved (y .side) (stops y (firstZero K y a)) (y .b .cols)) (firstZero K y a) s₀
+  pub slab : s ≡ solveUnknowns K y begin a (linesSolved (y .side) (stops y (firstZero K y a)) (y .b .cols)) (firstZero K y a) s₀

@@ -10,7 +10,7 @@ use Rattle.view.specs.declared.Diag.{Diag}
 use Rattle.view.specs.declared.Side.{Side}
 use Rattle.view.specs.declared.Side.the-variants.{Left, Right}
 use Rattle.view.specs.Place.{transposedOf, opViewOf, isConj}
-use Rattle.slab.specs.Run.{plain}
+use Rattle.slab.specs.Run.{elemConj}
 use Rattle.blas.specs.Substitution.{lastFirst}
 use Rattle.blas.specs.Trsm.{timesAlpha}
 use Rattle.order.specs.declared.System.{System}
@@ -32,7 +32,7 @@ systemOf side uplo t diag a b = record {
 
 -- what unknown p weighs in the equation of unknown q
 abbrev pub coefficient : (K : Kind) → System → List (K .Cell) → ℕ → ℕ → K .Elem
-coefficient K y a q p = plain K (y .conjugated) a (y .a) q p
+coefficient K y a q p = elemConj K (y .conjugated) a (y .a) q p
 
 -- times alpha, or as it is
 abbrev pub timesIf : (K : Kind) → Bool → K .Elem → K .Elem → K .Elem

@@ -7,9 +7,9 @@ ghost use Prim.Native.Nat.{_<_, _-_};
 ghost use Rattle.number.specs.Kind.{complex};
 ghost use Rattle.number.specs.Scaling.{scaleByComplex, times};
 ghost use Rattle.view.specs.Triangle.{inTriangle};
-ghost use Rattle.slab.specs.Run.{plain, more};
-ghost use Rattle.slab.specs.Elem.{lent, Shows};
-ghost use Rattle.slab.specs.Update.{everywhere, row as rowOf, update};
+ghost use Rattle.slab.specs.Run.{elemConj, plusTerms};
+ghost use Rattle.slab.specs.Elem.{lent, Within};
+ghost use Rattle.slab.specs.Update.{everywhere, replaced, updateRow, update};
 ghost use Rattle.blas.specs.Outcome.{Gives};
 ghost use Rattle.blas.specs.Gemm;
 ghost use Rattle.blas.specs.Gemv;
@@ -19,7 +19,7 @@ ghost use Rattle.blas.specs.Herk;
 ghost use Rattle.blas.specs.Symm;
 ghost use Rattle.blas.specs.Syrk;
 ghost use Rattle.product_plan.specs.Plans.{ReadySided, sidedWork};
-ghost use Rattle.product_plan.specs.Plan.{term, replaced, planChange, foldedChange, turnOf, Spans, Ready, FoldedReady, ByRow};
+ghost use Rattle.product_plan.specs.Plan.{term, planChange, foldedChange, termsBefore, FactorsWithin, Ready, FoldedReady, ByRow};
 use judge::check_gemm;
 use judge::check_gemv;
 use judge::check_hemm;
@@ -65,8 +65,8 @@ use view::rows;
 
 // Element (i, j) of a view, conjugated or not.
 fn at(conjugated: bool, s: &[f64], v: View, i: usize, j: usize) -> Complex
-    requires { ⌜ Shows v (complex .count (now s)) i j ⌝ }
-    ensures { λ r. ⌜ r ≡ plain complex conjugated (now (s .entry)) v i j ⌝ }
+    requires { ⌜ Within v (complex .count (now s)) i j ⌝ }
+    ensures { λ r. ⌜ r ≡ elemConj complex conjugated (now (s .entry)) v i j ⌝ }
 {
     let x = elem_complex(s, v, i, j);
     if conjugated { x.conj() } else { x }
@@ -83,8 +83,8 @@ fn add_run(
     end: usize,
     sum: Complex,
 ) -> Complex
-    requires { ⌜ Spans f (complex .count (now a)) (complex .count (now b)) i j from end ⌝ }
-    ensures { λ r. ⌜ r ≡ more complex sum (term complex f (now (a .entry)) (now (b .entry)) i j) from (end - from) ⌝ }
+    requires { ⌜ FactorsWithin f (complex .count (now a)) (complex .count (now b)) i j from end ⌝ }
+    ensures { λ r. ⌜ r ≡ plusTerms complex sum (term complex f (now (a .entry)) (now (b .entry)) i j) from (end - from) ⌝ }
 {
     let mut total = sum;
     let mut p = from;
@@ -106,8 +106,8 @@ fn add_left(
     end: usize,
     sum: Complex,
 ) -> Complex
-    requires { ⌜ Spans f (complex .count (now a)) (complex .count (now b)) i j from end × (f .«right_conj» ≡ false) ⌝ }
-    ensures { λ r. ⌜ r ≡ more complex sum (term complex f (now (a .entry)) (now (b .entry)) i j) from (end - from) ⌝ }
+    requires { ⌜ FactorsWithin f (complex .count (now a)) (complex .count (now b)) i j from end × (f .«right_conj» ≡ false) ⌝ }
+    ensures { λ r. ⌜ r ≡ plusTerms complex sum (term complex f (now (a .entry)) (now (b .entry)) i j) from (end - from) ⌝ }
 {
     let mut total = sum;
     let mut p = from;
@@ -128,7 +128,7 @@ fn settle(
     j: usize,
     sum: Complex,
 )
-    requires { ⌜ Shows v (complex .count (now c)) i j ⌝ }
+    requires { ⌜ Within v (complex .count (now c)) i j ⌝ }
     ensures { λ _. ⌜ now (c .exit) ≡ replaced complex v i j (λ x. complex .add (scaleByComplex beta x) (times alpha sum)) (now (c .entry)) ⌝ }
 {
     let k = place(v, i, j);
@@ -165,7 +165,7 @@ fn row(
     i: usize,
 )
     requires { ⌜ Ready plan (complex .count (now a)) (complex .count (now b)) (complex .count (now c)) × (i < plan .target .rows) ⌝ }
-    ensures { λ _. ⌜ now (c .exit) ≡ rowOf complex (plan .target) everywhere (planChange complex plan (scaleByComplex beta) (times alpha) (now (a .entry)) (now (b .entry))) i (plan .target .cols) (now (c .entry)) ⌝ }
+    ensures { λ _. ⌜ now (c .exit) ≡ updateRow complex (plan .target) everywhere (planChange complex plan (scaleByComplex beta) (times alpha) (now (a .entry)) (now (b .entry))) i (plan .target .cols) (now (c .entry)) ⌝ }
 {
     let n = cols(plan.target);
     let mut j = 0;
@@ -231,7 +231,7 @@ fn turned_entry(
     i: usize,
     j: usize,
 )
-    requires { ⌜ FoldedReady plan (complex .count (now a)) (complex .count (now b)) (complex .count (now c)) × (i < plan .target .rows) × (j < plan .target .cols) × (k ≡ turnOf (plan .turn) i j) ⌝ }
+    requires { ⌜ FoldedReady plan (complex .count (now a)) (complex .count (now b)) (complex .count (now c)) × (i < plan .target .rows) × (j < plan .target .cols) × (k ≡ termsBefore (plan .turn) i j) ⌝ }
     ensures { λ _. ⌜ now (c .exit) ≡ replaced complex (plan .target) i j (foldedChange complex plan (scaleByComplex beta) (times alpha) (now (a .entry)) (now (b .entry)) i j) (now (c .entry)) ⌝ }
 {
     let n = plan.terms;
@@ -422,7 +422,7 @@ fn symm_upper_row(
     i: usize,
 )
     requires { ⌜ FoldedReady plan (complex .count (now a)) (complex .count (now b)) (complex .count (now c)) × ByRow plan × (i < plan .target .rows) ⌝ }
-    ensures { λ _. ⌜ now (c .exit) ≡ rowOf complex (plan .target) everywhere (foldedChange complex plan (scaleByComplex beta) (times alpha) (now (a .entry)) (now (b .entry))) i (plan .target .cols) (now (c .entry)) ⌝ }
+    ensures { λ _. ⌜ now (c .exit) ≡ updateRow complex (plan .target) everywhere (foldedChange complex plan (scaleByComplex beta) (times alpha) (now (a .entry)) (now (b .entry))) i (plan .target .cols) (now (c .entry)) ⌝ }
 {
     let turn = plan.turn;
     let k = turn_at(turn, i, 0, plan.terms);
@@ -465,7 +465,7 @@ fn symm_lower_row(
     i: usize,
 )
     requires { ⌜ FoldedReady plan (complex .count (now a)) (complex .count (now b)) (complex .count (now c)) × ByRow plan × (i < plan .target .rows) ⌝ }
-    ensures { λ _. ⌜ now (c .exit) ≡ rowOf complex (plan .target) everywhere (foldedChange complex plan (scaleByComplex beta) (times alpha) (now (a .entry)) (now (b .entry))) i (plan .target .cols) (now (c .entry)) ⌝ }
+    ensures { λ _. ⌜ now (c .exit) ≡ updateRow complex (plan .target) everywhere (foldedChange complex plan (scaleByComplex beta) (times alpha) (now (a .entry)) (now (b .entry))) i (plan .target .cols) (now (c .entry)) ⌝ }
 {
     let turn = plan.turn;
     let k = turn_at(turn, i, 0, plan.terms);
@@ -543,7 +543,7 @@ fn symm_right_row(
     i: usize,
 )
     requires { ⌜ FoldedReady plan (complex .count (now a)) (complex .count (now b)) (complex .count (now c)) × (i < plan .target .rows) ⌝ }
-    ensures { λ _. ⌜ now (c .exit) ≡ rowOf complex (plan .target) everywhere (foldedChange complex plan (scaleByComplex beta) (times alpha) (now (a .entry)) (now (b .entry))) i (plan .target .cols) (now (c .entry)) ⌝ }
+    ensures { λ _. ⌜ now (c .exit) ≡ updateRow complex (plan .target) everywhere (foldedChange complex plan (scaleByComplex beta) (times alpha) (now (a .entry)) (now (b .entry))) i (plan .target .cols) (now (c .entry)) ⌝ }
 {
     let n = cols(plan.target);
     let mut j = 0;
@@ -656,7 +656,7 @@ fn hemm_upper_row(
     i: usize,
 )
     requires { ⌜ FoldedReady plan (complex .count (now a)) (complex .count (now b)) (complex .count (now c)) × ByRow plan × (i < plan .target .rows) ⌝ }
-    ensures { λ _. ⌜ now (c .exit) ≡ rowOf complex (plan .target) everywhere (foldedChange complex plan (scaleByComplex beta) (times alpha) (now (a .entry)) (now (b .entry))) i (plan .target .cols) (now (c .entry)) ⌝ }
+    ensures { λ _. ⌜ now (c .exit) ≡ updateRow complex (plan .target) everywhere (foldedChange complex plan (scaleByComplex beta) (times alpha) (now (a .entry)) (now (b .entry))) i (plan .target .cols) (now (c .entry)) ⌝ }
 {
     let turn = plan.turn;
     let k = turn_at(turn, i, 0, plan.terms);
@@ -699,7 +699,7 @@ fn hemm_lower_row(
     i: usize,
 )
     requires { ⌜ FoldedReady plan (complex .count (now a)) (complex .count (now b)) (complex .count (now c)) × ByRow plan × (i < plan .target .rows) ⌝ }
-    ensures { λ _. ⌜ now (c .exit) ≡ rowOf complex (plan .target) everywhere (foldedChange complex plan (scaleByComplex beta) (times alpha) (now (a .entry)) (now (b .entry))) i (plan .target .cols) (now (c .entry)) ⌝ }
+    ensures { λ _. ⌜ now (c .exit) ≡ updateRow complex (plan .target) everywhere (foldedChange complex plan (scaleByComplex beta) (times alpha) (now (a .entry)) (now (b .entry))) i (plan .target .cols) (now (c .entry)) ⌝ }
 {
     let turn = plan.turn;
     let k = turn_at(turn, i, 0, plan.terms);
@@ -777,7 +777,7 @@ fn hemm_right_row(
     i: usize,
 )
     requires { ⌜ FoldedReady plan (complex .count (now a)) (complex .count (now b)) (complex .count (now c)) × (i < plan .target .rows) ⌝ }
-    ensures { λ _. ⌜ now (c .exit) ≡ rowOf complex (plan .target) everywhere (foldedChange complex plan (scaleByComplex beta) (times alpha) (now (a .entry)) (now (b .entry))) i (plan .target .cols) (now (c .entry)) ⌝ }
+    ensures { λ _. ⌜ now (c .exit) ≡ updateRow complex (plan .target) everywhere (foldedChange complex plan (scaleByComplex beta) (times alpha) (now (a .entry)) (now (b .entry))) i (plan .target .cols) (now (c .entry)) ⌝ }
 {
     let n = cols(plan.target);
     let mut j = 0;
@@ -891,7 +891,7 @@ fn syrk_row(
     i: usize,
 )
     requires { ⌜ Ready plan (complex .count (now a)) (complex .count (now b)) (complex .count (now c)) × (i < plan .target .rows) × (i < plan .target .cols) ⌝ }
-    ensures { λ _. ⌜ now (c .exit) ≡ rowOf complex (plan .target) (inTriangle uplo) (planChange complex plan (scaleByComplex beta) (times alpha) (now (a .entry)) (now (b .entry))) i (plan .target .cols) (now (c .entry)) ⌝ }
+    ensures { λ _. ⌜ now (c .exit) ≡ updateRow complex (plan .target) (inTriangle uplo) (planChange complex plan (scaleByComplex beta) (times alpha) (now (a .entry)) (now (b .entry))) i (plan .target .cols) (now (c .entry)) ⌝ }
 {
     let end = end_col(uplo, i, cols(plan.target));
     let mut j = first_col(uplo, i);
@@ -963,7 +963,7 @@ fn herk_row(
     i: usize,
 )
     requires { ⌜ Ready plan (complex .count (now a)) (complex .count (now b)) (complex .count (now c)) × (i < plan .target .rows) × (i < plan .target .cols) ⌝ }
-    ensures { λ _. ⌜ now (c .exit) ≡ rowOf complex (plan .target) (inTriangle uplo) (planChange complex plan (scaleByComplex beta) (times alpha) (now (a .entry)) (now (b .entry))) i (plan .target .cols) (now (c .entry)) ⌝ }
+    ensures { λ _. ⌜ now (c .exit) ≡ updateRow complex (plan .target) (inTriangle uplo) (planChange complex plan (scaleByComplex beta) (times alpha) (now (a .entry)) (now (b .entry))) i (plan .target .cols) (now (c .entry)) ⌝ }
 {
     let end = end_col(uplo, i, cols(plan.target));
     let mut j = first_col(uplo, i);

@@ -16,7 +16,7 @@ use Rattle.view.specs.Triangle.{inTriangle}
 use Rattle.slab.specs.Elem.{elem}
 use Rattle.blas.specs.Matrix.{Matrix, op, sum, dot}
 use Rattle.blas.proofs.OpLaws.{transposed-elem, op-elem}
-use Rattle.slab.specs.Run.{plain}
+use Rattle.slab.specs.Run.{elemConj}
 use Rattle.product_plan.specs.Plan.{product, foldedProduct, foldedTerm}
 use Rattle.product_plan.specs.Plans.{opPlan, leftPlan, rightPlan}
 
@@ -53,7 +53,7 @@ past-turn k p x y = go (leb p k) refl
 
 module _ (K : Kind) (conj : Bool) (va vb : View) (n : ℕ) (vc : View) (a b : List (K .Cell)) where
   -- an element's mirror image
-  mirrored : (i j : ℕ) → plain K conj a (transposedOf va) i j ≡ cond conj (K .conj (elem K a va j i)) (elem K a va j i)
+  mirrored : (i j : ℕ) → elemConj K conj a (transposedOf va) i j ≡ cond conj (K .conj (elem K a va j i)) (elem K a va j i)
   mirrored i j = ap (λ x. cond conj (K .conj x) x) (transposed-elem K a va i j)
 
   by-left : (c : Bool) (x y z : K .Elem) → cond c (K .mul x z) (K .mul y z) ≡ K .mul (cond c x y) z

@@ -19,18 +19,18 @@ use Rattle.view.specs.Checks.{opRows, opCols, gemvShape, hemvShape, gemmShape, 
 use Rattle.view.specs.JudgeLaws.{Passed, gemv-sizes, hemv-sizes, gemm-sizes, symm-sizes, syrk-sizes}
 use Rattle.view.specs.Vector.{columnOf}
 use Rattle.view.specs.VectorLaws.{column-accepted}
-use Rattle.slab.specs.Elem.{Shows}
+use Rattle.slab.specs.Elem.{Within}
 use Rattle.blas.specs.Syrk.{syrkLeft, syrkRight}
 use Rattle.blas.specs.Herk.{herkLeft, herkRight}
 use Rattle.product_plan.specs.declared.plan.Factors.{Factors}
 use Rattle.product_plan.specs.declared.plan.Plan.{Plan}
 use Rattle.product_plan.specs.declared.plan.Folded.{Folded}
-use Rattle.product_plan.specs.Plan.{turnOf, Reads, Spans, Ready, FoldedReady, ByRow, LeftWalk, ByCol, RightWalk}
+use Rattle.product_plan.specs.Plan.{termsBefore, Reads, FactorsWithin, Ready, FoldedReady, ByRow, LeftWalk, ByCol, RightWalk}
 use Rattle.product_plan.specs.Plans.{opFactors, leftFactors, rightFactors, rowTurn, colTurn, isUpper, leftPlan, rightPlan, gemmPlan, gemvPlan, hemvPlan, syrkPlan, herkPlan, ReadySided}
 
 -- ---- what the engine's steps ask
 
-pub spans : (f : Factors) (la lb m n k : ℕ) → Reads f la lb m n k → (i j from end : ℕ) → i < m → j < n → from ≤ end → end ≤ k → Spans f la lb i j from end
+pub spans : (f : Factors) (la lb m n k : ℕ) → Reads f la lb m n k → (i j from end : ℕ) → i < m → j < n → from ≤ end → end ≤ k → FactorsWithin f la lb i j from end
 spans f la lb m n k r i j from end h g s l =
     record { ordered = s; left = λ p q. r .left i p h (omega arith); right = λ p q. r .right p j (omega arith) g }
 
@@ -67,7 +67,7 @@ module _ (plan : Folded) (la lb lc i j : ℕ) (r : FoldedReady plan la lb lc) (h
 
 -- ---- op(A) op(B)
 
-op-shows : (t : Trans) (v : View) (len i j : ℕ) → Accepted v len → i < opRows t v → j < opCols t v → Shows (opViewOf t v) len i j
+op-shows : (t : Trans) (v : View) (len i j : ℕ) → Accepted v len → i < opRows t v → j < opCols t v → Within (opViewOf t v) len i j
 op-shows NoTrans v len i j a p q = record { fits = a; row = p; col = q }
 op-shows Transposed v len i j a p q = record { fits = transposed-accepted v len a; row = p; col = q }
 op-shows ConjTrans v len i j a p q = record { fits = transposed-accepted v len a; row = p; col = q }
@@ -149,27 +149,27 @@ module _ (t : Trans) (a c : View) (la lc : ℕ) (h : Passed (arg a la ∷ arg c 
 
 -- ---- A, of which the named triangle is read, on a side of B: A is square, so it is inside however it is read
 
-row-turns : (uplo : UpLo) (i j k : ℕ) → i < k → turnOf (rowTurn uplo) i j ≤ k
+row-turns : (uplo : UpLo) (i j k : ℕ) → i < k → termsBefore (rowTurn uplo) i j ≤ k
 row-turns Upper i j k h = omega arith
 row-turns Lower i j k h = omega arith
 
-row-same : (uplo : UpLo) (i j : ℕ) → turnOf (rowTurn uplo) i 0 ≡ turnOf (rowTurn uplo) i j
+row-same : (uplo : UpLo) (i j : ℕ) → termsBefore (rowTurn uplo) i 0 ≡ termsBefore (rowTurn uplo) i j
 row-same Upper i j = refl
 row-same Lower i j = refl
 
-row-low : (uplo : UpLo) (i j : ℕ) → i ≤ turnOf (rowTurn uplo) i j
+row-low : (uplo : UpLo) (i j : ℕ) → i ≤ termsBefore (rowTurn uplo) i j
 row-low Upper i j = omega arith
 row-low Lower i j = omega arith
 
-row-high : (uplo : UpLo) (i j : ℕ) → turnOf (rowTurn uplo) i j ≤ i + 1
+row-high : (uplo : UpLo) (i j : ℕ) → termsBefore (rowTurn uplo) i j ≤ i + 1
 row-high Upper i j = omega arith
 row-high Lower i j = omega arith
 
-col-low : (uplo : UpLo) (i j : ℕ) → j ≤ turnOf (colTurn uplo) i j
+col-low : (uplo : UpLo) (i j : ℕ) → j ≤ termsBefore (colTurn uplo) i j
 col-low Upper i j = omega arith
 col-low Lower i j = omega arith
 
-col-high : (uplo : UpLo) (i j : ℕ) → turnOf (colTurn uplo) i j ≤ j + 1
+col-high : (uplo : UpLo) (i j : ℕ) → termsBefore (colTurn uplo) i j ≤ j + 1
 col-high Upper i j = omega arith
 col-high Lower i j = omega arith
 
@@ -194,7 +194,7 @@ module _ (conj : Bool) (a b : View) where
   left-plain true = refl
   left-plain false = refl
 
-col-turns : (uplo : UpLo) (i j k : ℕ) → j < k → turnOf (colTurn uplo) i j ≤ k
+col-turns : (uplo : UpLo) (i j k : ℕ) → j < k → termsBefore (colTurn uplo) i j ≤ k
 col-turns Upper i j k h = omega arith
 col-turns Lower i j k h = omega arith
 

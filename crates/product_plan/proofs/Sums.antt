@@ -14,32 +14,32 @@ use Rattle.blas.specs.Matrix.{sum}
 use Rattle.blas.proofs.SumLaws.{sum-next}
 use Rattle.product_plan.specs.declared.plan.Factors.{Factors}
 use Rattle.product_plan.specs.declared.plan.Folded.{Folded}
-use Rattle.slab.proofs.RunLaws.{plain-real}
-use Rattle.slab.specs.Run.{plain, more}
-use Rattle.product_plan.specs.Plan.{term, turnOf, foldedProduct}
+use Rattle.slab.proofs.RunLaws.{elem-conj-real}
+use Rattle.slab.specs.Run.{elemConj, plusTerms}
+use Rattle.product_plan.specs.Plan.{term, termsBefore, foldedProduct}
 
 -- ---- a loop that adds terms from `from` on, at p
 
 module _ (K : Kind) (f : ℕ → K .Elem) where
-  more-step : (x : K .Elem) (from k : ℕ) → more K x f from (k + 1) ≡ K .add (more K x f from k) (f (from + k))
-  unfolding more
+  more-step : (x : K .Elem) (from k : ℕ) → plusTerms K x f from (k + 1) ≡ K .add (plusTerms K x f from k) (f (from + k))
+  unfolding plusTerms
   more-step x from k = rw add-one
 
-  pub more-start : (x : K .Elem) (from : ℕ) → x ≡ more K x f from (from - from)
-  unfolding more
-  more-start x from =
+  pub plus-start : (x : K .Elem) (from : ℕ) → x ≡ plusTerms K x f from (from - from)
+  unfolding plusTerms
+  plus-start x from =
       let e : 0 ≡ from - from = omega arith in
-      ap (λ (k : ℕ). more K x f from k) e
+      ap (λ (k : ℕ). plusTerms K x f from k) e
 
   -- a loop that is left at p has added the terms before `end`
-  pub more-end : (x y : K .Elem) (from p end : ℕ) → p ≤ end → end ≤ p → y ≡ more K x f from (p - from) → y ≡ more K x f from (end - from)
-  more-end x y from p end h g e =
+  pub plus-end : (x y : K .Elem) (from p end : ℕ) → p ≤ end → end ≤ p → y ≡ plusTerms K x f from (p - from) → y ≡ plusTerms K x f from (end - from)
+  plus-end x y from p end h g e =
       let q : p ≡ end = omega arith in
-      subst (λ (m : ℕ). y ≡ more K x f from (m - from)) q e
+      subst (λ (m : ℕ). y ≡ plusTerms K x f from (m - from)) q e
 
   -- terms added to a sum are a longer sum
-  more-sum : (from n : ℕ) → more K (sum K from f) f from n ≡ sum K (from + n) f
-  unfolding more sum
+  more-sum : (from n : ℕ) → plusTerms K (sum K from f) f from n ≡ sum K (from + n) f
+  unfolding plusTerms sum
   more-sum from zero =
       let e : from ≡ from + 0 = omega arith in
       ap (λ (m : ℕ). sum K m f) e
@@ -48,28 +48,28 @@ module _ (K : Kind) (f : ℕ → K .Elem) where
       ap (λ z. K .add z (f (from + n))) (more-sum from n) ∙ ap (λ (m : ℕ). sum K m f) e
 
   -- a run from 0 on is the sum
-  pub sum-whole : (x y : K .Elem) (n : ℕ) → x ≡ K .zero → y ≡ more K x f 0 (n - 0) → y ≡ sum K n f
+  pub sum-whole : (x y : K .Elem) (n : ℕ) → x ≡ K .zero → y ≡ plusTerms K x f 0 (n - 0) → y ≡ sum K n f
   unfolding sum
   sum-whole x y n e h =
       let q : 0 + (n - 0) ≡ n = omega arith in
-      h ∙ ap (λ z. more K z f 0 (n - 0)) e ∙ more-sum 0 (n - 0) ∙ ap (λ (m : ℕ). sum K m f) q
+      h ∙ ap (λ z. plusTerms K z f 0 (n - 0)) e ∙ more-sum 0 (n - 0) ∙ ap (λ (m : ℕ). sum K m f) q
 
 -- one term more: acc is what has been added so far, u and v are the next factors
 module _ (K : Kind) (f : Factors) (a b : List (K .Cell)) (i j : ℕ) (x : K .Elem) (from p : ℕ) (acc u v m next : K .Elem) where
-  pub term-next : from ≤ p → acc ≡ more K x (term K f a b i j) from (p - from) → u ≡ plain K (f .«left_conj») a (f .left) i p → v ≡ plain K (f .«right_conj») b (f .right) p j
-      → m ≡ K .mul u v → next ≡ K .add acc m → next ≡ more K x (term K f a b i j) from (p + 1 - from)
+  pub term-next : from ≤ p → acc ≡ plusTerms K x (term K f a b i j) from (p - from) → u ≡ elemConj K (f .«left_conj») a (f .left) i p → v ≡ elemConj K (f .«right_conj») b (f .right) p j
+      → m ≡ K .mul u v → next ≡ K .add acc m → next ≡ plusTerms K x (term K f a b i j) from (p + 1 - from)
   term-next h e eu ev em en =
       let q : p ≡ from + (p - from) = omega arith in
       let k : (p - from) + 1 ≡ p + 1 - from = omega arith in
       en
       ∙ (λ t. K .add (e t) ((em ∙ (λ s. K .mul (eu s) (ev s)) ∙ ap (λ (z : ℕ). term K f a b i j z) q) t))
       ∙ sym (more-step K (term K f a b i j) x from (p - from))
-      ∙ ap (λ (z : ℕ). more K x (term K f a b i j) from z) k
+      ∙ ap (λ (z : ℕ). plusTerms K x (term K f a b i j) from z) k
 
 -- the same where the right factors are not conjugated
 pub left-next : (K : Kind) (f : Factors) (a b : List (K .Cell)) (i j : ℕ) (x : K .Elem) (from p : ℕ) (acc u v m next : K .Elem) → from ≤ p → f .«right_conj» ≡ false
-    → acc ≡ more K x (term K f a b i j) from (p - from) → u ≡ plain K (f .«left_conj») a (f .left) i p → v ≡ elem K b (f .right) p j
-    → m ≡ K .mul u v → next ≡ K .add acc m → next ≡ more K x (term K f a b i j) from (p + 1 - from)
+    → acc ≡ plusTerms K x (term K f a b i j) from (p - from) → u ≡ elemConj K (f .«left_conj») a (f .left) i p → v ≡ elem K b (f .right) p j
+    → m ≡ K .mul u v → next ≡ K .add acc m → next ≡ plusTerms K x (term K f a b i j) from (p + 1 - from)
 left-next K f a b i j x from p acc u v m next h c e eu ev em en =
     term-next K f a b i j x from p acc u v m next h e eu
     (ev ∙ ap (λ (t : Bool). cond t (K .conj (elem K b (f .right) p j)) (elem K b (f .right) p j)) (sym c))
@@ -78,11 +78,11 @@ left-next K f a b i j x from p acc u v m next h c e eu ev em en =
 
 -- the same of real numbers, whose conjugates are themselves
 pub real-next : (r : Format) (f : Factors) (a b : List Float) (i j : ℕ) (x : Float) (from p : ℕ) (acc u v m next : Float) → from ≤ p
-    → acc ≡ more (real r) x (term (real r) f a b i j) from (p - from) → u ≡ elem (real r) a (f .left) i p → v ≡ elem (real r) b (f .right) p j
-    → m ≡ real r .mul u v → next ≡ real r .add acc m → next ≡ more (real r) x (term (real r) f a b i j) from (p + 1 - from)
+    → acc ≡ plusTerms (real r) x (term (real r) f a b i j) from (p - from) → u ≡ elem (real r) a (f .left) i p → v ≡ elem (real r) b (f .right) p j
+    → m ≡ real r .mul u v → next ≡ real r .add acc m → next ≡ plusTerms (real r) x (term (real r) f a b i j) from (p + 1 - from)
 real-next r f a b i j x from p acc u v m next h e eu ev em en =
-    term-next (real r) f a b i j x from p acc u v m next h e (eu ∙ plain-real r (f .«left_conj») a (f .left) i p)
-    (ev ∙ plain-real r (f .«right_conj») b (f .right) p j)
+    term-next (real r) f a b i j x from p acc u v m next h e (eu ∙ elem-conj-real r (f .«left_conj») a (f .left) i p)
+    (ev ∙ elem-conj-real r (f .«right_conj») b (f .right) p j)
     em
     en
 
@@ -92,14 +92,14 @@ pub real-sum-next : (r : Format) (f : Factors) (a b : List Float) (i j p : ℕ) 
     → next ≡ sum (real r) (p + 1) (term (real r) f a b i j)
 real-sum-next r f a b i j p acc u v m next e eu ev em en =
     sum-next (real r) (term (real r) f a b i j) p acc m next e
-    (em ∙ (λ t. real r .mul ((eu ∙ plain-real r (f .«left_conj») a (f .left) i p) t) ((ev ∙ plain-real r (f .«right_conj») b (f .right) p j) t)))
+    (em ∙ (λ t. real r .mul ((eu ∙ elem-conj-real r (f .«left_conj») a (f .left) i p) t) ((ev ∙ elem-conj-real r (f .«right_conj») b (f .right) p j) t)))
     en
 
 -- ---- the terms before a turn and those after it
 
 more-same : (K : Kind) (f g : ℕ → K .Elem) (x : K .Elem) (from n : ℕ) → ((q : ℕ) → q < n → f (from + q) ≡ g (from + q))
-    → more K x f from n ≡ more K x g from n
-unfolding more
+    → plusTerms K x f from n ≡ plusTerms K x g from n
+unfolding plusTerms
 more-same K f g x from zero h = refl
 more-same K f g x from (suc n) h =
     λ t. K .add (more-same K f g x from n (λ q l. h q (omega arith)) t) (h n (omega arith) t)
@@ -108,20 +108,20 @@ module _ (K : Kind) (f g : ℕ → K .Elem) (k n : ℕ) where
   abbrev both : ℕ → K .Elem
   both p = cond (ltb p k) (f p) (g p)
 
-  sum-turned : (zero′ x y : K .Elem) → k ≤ n → zero′ ≡ K .zero → x ≡ more K zero′ f 0 (k - 0) → y ≡ more K x g k (n - k) → y ≡ sum K n both
+  sum-turned : (zero′ x y : K .Elem) → k ≤ n → zero′ ≡ K .zero → x ≡ plusTerms K zero′ f 0 (k - 0) → y ≡ plusTerms K x g k (n - k) → y ≡ sum K n both
   sum-turned zero′ x y h e ex ey =
       let q : k + (n - k) ≡ n = omega arith in
       ey
       ∙ more-same K g both x k (n - k) (λ p l. ap (λ (b : Bool). cond b (f (k + p)) (g (k + p))) (sym (le-ltb (k + p) k (omega arith))))
-      ∙ ap (λ z. more K z both k (n - k)) (sum-whole K both zero′ x k e (ex ∙ more-same K f both zero′ 0 (k - 0) (λ p l. before (0 + p) (omega arith))))
+      ∙ ap (λ z. plusTerms K z both k (n - k)) (sum-whole K both zero′ x k e (ex ∙ more-same K f both zero′ 0 (k - 0) (λ p l. before (0 + p) (omega arith))))
       ∙ more-sum K both k (n - k)
       ∙ ap (λ (m : ℕ). sum K m both) q
     where
       before : (p : ℕ) → p < k → f p ≡ both p
       before p l = ap (λ (b : Bool). cond b (f p) (g p)) (sym (lt-ltb p k l))
 
-pub folded-sum : (K : Kind) (plan : Folded) (a b : List (K .Cell)) (i j k : ℕ) (zero′ x y : K .Elem) → k ≡ turnOf (plan .turn) i j → k ≤ plan .terms → zero′ ≡ K .zero
-    → x ≡ more K zero′ (term K (plan .head) a b i j) 0 (k - 0) → y ≡ more K x (term K (plan .tail) a b i j) k (plan .terms - k) → y ≡ foldedProduct K plan a b i j
+pub folded-sum : (K : Kind) (plan : Folded) (a b : List (K .Cell)) (i j k : ℕ) (zero′ x y : K .Elem) → k ≡ termsBefore (plan .turn) i j → k ≤ plan .terms → zero′ ≡ K .zero
+    → x ≡ plusTerms K zero′ (term K (plan .head) a b i j) 0 (k - 0) → y ≡ plusTerms K x (term K (plan .tail) a b i j) k (plan .terms - k) → y ≡ foldedProduct K plan a b i j
 folded-sum K plan a b i j k zero′ x y ek h e ex ey =
     sum-turned K (term K (plan .head) a b i j) (term K (plan .tail) a b i j) k (plan .terms) zero′ x y h e ex ey
     ∙ ap (λ (z : ℕ). sum K (plan .terms) (λ p. cond (ltb p z) (term K (plan .head) a b i j p) (term K (plan .tail) a b i j p))) ek

@@ -13,15 +13,15 @@ use Rattle.view.specs.Place.{index, transposedOf}
 use Rattle.view.specs.Steps.{stepOf}
 use Rattle.view.specs.StepLaws.{next-col}
 use Rattle.view.specs.TransposeLaws.{transposed-index, transposed-accepted}
-use Rattle.slab.specs.Elem.{elem, Shows}
-use Rattle.slab.proofs.RunLaws.{plain-real}
+use Rattle.slab.specs.Elem.{elem, Within}
+use Rattle.slab.proofs.RunLaws.{elem-conj-real}
 use Rattle.slab.proofs.Shown.{inside}
 use Rattle.blas.proofs.OpLaws.{transposed-elem}
 use Rattle.product_plan.specs.declared.plan.Folded.{Folded}
-use Rattle.product_plan.specs.Plan.{term, turnOf, foldedTerm, bentStep, LeftWalk, RightWalk}
+use Rattle.product_plan.specs.Plan.{term, termsBefore, foldedTerm, bentStep, LeftWalk, RightWalk}
 
 -- one column further
-step-index : (v : View) (len r c : ℕ) → len ≤ 2 ^ 63 → Shows v len r c → Shows v len r (c + 1) → (index v r c + stepOf (v .cs)) % 2 ^ 64 ≡ index v r (c + 1)
+step-index : (v : View) (len r c : ℕ) → len ≤ 2 ^ 63 → Within v len r c → Within v len r (c + 1) → (index v r c + stepOf (v .cs)) % 2 ^ 64 ≡ index v r (c + 1)
 step-index v len r c small h g = next-col v len small (h .fits .fits) r c (h .row) (g .col)
 
 -- ---- the place of term p
@@ -29,8 +29,8 @@ step-index v len r c small h g = next-col v len small (h .fits .fits) r c (h .ro
 -- n terms in row i of two views of one slab, which meet on the diagonal
 pub record Line (head tail : View) (len n i : ℕ) : Type 0 where
   pub small : len ≤ 2 ^ 63
-  pub before : (p : ℕ) → p < n → Shows head len i p
-  pub after : (p : ℕ) → p < n → Shows tail len i p
+  pub before : (p : ℕ) → p < n → Within head len i p
+  pub after : (p : ℕ) → p < n → Within tail len i p
   pub meet : index head i i ≡ index tail i i
 
 -- k is the place of term p: up to the diagonal, and from the diagonal on
@@ -96,19 +96,19 @@ module _ (plan : Folded) (la lb i j : ℕ) (h : LeftWalk plan la lb i j) where
   -- what is read there and in the right operand makes term p
   pub left-term : (r : Format) (a b : List Float) (p k : ℕ) (u v m : Float) → p < plan .terms → At (plan .head .left) (plan .tail .left) (plan .terms) i p k
       → u ≡ real r .at a k → v ≡ elem (real r) b (plan .head .right) p j → m ≡ real r .mul u v → m ≡ foldedTerm (real r) plan a b i j p
-  left-term r a b p k u v m l t eu ev em = go (ltb p (turnOf (plan .turn) i j)) refl
+  left-term r a b p k u v m l t eu ev em = go (ltb p (termsBefore (plan .turn) i j)) refl
     where
-      go : (c : Bool) → ltb p (turnOf (plan .turn) i j) ≡ c → m ≡ cond c (term (real r) (plan .head) a b i j p) (term (real r) (plan .tail) a b i j p)
+      go : (c : Bool) → ltb p (termsBefore (plan .turn) i j) ≡ c → m ≡ cond c (term (real r) (plan .head) a b i j p) (term (real r) (plan .tail) a b i j p)
       go true e =
           em
           ∙ (λ s. real r .mul
-          ((eu ∙ at-elem (real r) a _ _ _ i p k _ l (h .by-row .low i j) (h .by-row .high i j) t true e ∙ plain-real r (plan .head .«left_conj») a (plan .head .left) i p) s)
-          ((ev ∙ plain-real r (plan .head .«right_conj») b (plan .head .right) p j) s))
+          ((eu ∙ at-elem (real r) a _ _ _ i p k _ l (h .by-row .low i j) (h .by-row .high i j) t true e ∙ elem-conj-real r (plan .head .«left_conj») a (plan .head .left) i p) s)
+          ((ev ∙ elem-conj-real r (plan .head .«right_conj») b (plan .head .right) p j) s))
       go false e =
           em
           ∙ (λ s. real r .mul
-          ((eu ∙ at-elem (real r) a _ _ _ i p k _ l (h .by-row .low i j) (h .by-row .high i j) t false e ∙ plain-real r (plan .tail .«left_conj») a (plan .tail .left) i p) s)
-          ((ev ∙ ap (λ (w : View). elem (real r) b w p j) (sym (h .by-row .right)) ∙ plain-real r (plan .tail .«right_conj») b (plan .tail .right) p j) s))
+          ((eu ∙ at-elem (real r) a _ _ _ i p k _ l (h .by-row .low i j) (h .by-row .high i j) t false e ∙ elem-conj-real r (plan .tail .«left_conj») a (plan .tail .left) i p) s)
+          ((ev ∙ ap (λ (w : View). elem (real r) b w p j) (sym (h .by-row .right)) ∙ elem-conj-real r (plan .tail .«right_conj») b (plan .tail .right) p j) s))
 
 module _ (plan : Folded) (la lb i j : ℕ) (h : RightWalk plan la lb i j) where
   abbrev head : View
@@ -117,7 +117,7 @@ module _ (plan : Folded) (la lb i j : ℕ) (h : RightWalk plan la lb i j) where
   abbrev tail : View
   tail = transposedOf (plan .tail .right)
 
-  across : (v : View) (p : ℕ) → Shows v lb p j → Shows (transposedOf v) lb j p
+  across : (v : View) (p : ℕ) → Within v lb p j → Within (transposedOf v) lb j p
   across v p s = record { fits = transposed-accepted v lb (s .fits); row = s .col; col = s .row }
 
   pub right-line : lb ≤ 2 ^ 63 → Line head tail lb (plan .terms) j
@@ -135,16 +135,16 @@ module _ (plan : Folded) (la lb i j : ℕ) (h : RightWalk plan la lb i j) where
 
   pub right-term : (r : Format) (a b : List Float) (p k : ℕ) (u v m : Float) → p < plan .terms → At head tail (plan .terms) j p k
       → u ≡ elem (real r) a (plan .head .left) i p → v ≡ real r .at b k → m ≡ real r .mul u v → m ≡ foldedTerm (real r) plan a b i j p
-  right-term r a b p k u v m l t eu ev em = go (ltb p (turnOf (plan .turn) i j)) refl
+  right-term r a b p k u v m l t eu ev em = go (ltb p (termsBefore (plan .turn) i j)) refl
     where
-      go : (c : Bool) → ltb p (turnOf (plan .turn) i j) ≡ c → m ≡ cond c (term (real r) (plan .head) a b i j p) (term (real r) (plan .tail) a b i j p)
+      go : (c : Bool) → ltb p (termsBefore (plan .turn) i j) ≡ c → m ≡ cond c (term (real r) (plan .head) a b i j p) (term (real r) (plan .tail) a b i j p)
       go true e =
           em
           ∙ (λ s. real r .mul
-          ((eu ∙ plain-real r (plan .head .«left_conj») a (plan .head .left) i p) s)
-          ((ev ∙ at-elem (real r) b head tail _ j p k _ l (h .by-col .low i j) (h .by-col .high i j) t true e ∙ transposed-elem (real r) b (plan .head .right) j p ∙ plain-real r (plan .head .«right_conj») b (plan .head .right) p j) s))
+          ((eu ∙ elem-conj-real r (plan .head .«left_conj») a (plan .head .left) i p) s)
+          ((ev ∙ at-elem (real r) b head tail _ j p k _ l (h .by-col .low i j) (h .by-col .high i j) t true e ∙ transposed-elem (real r) b (plan .head .right) j p ∙ elem-conj-real r (plan .head .«right_conj») b (plan .head .right) p j) s))
       go false e =
           em
           ∙ (λ s. real r .mul
-          ((eu ∙ ap (λ (w : View). elem (real r) a w i p) (sym (h .by-col .left)) ∙ plain-real r (plan .tail .«left_conj») a (plan .tail .left) i p) s)
-          ((ev ∙ at-elem (real r) b head tail _ j p k _ l (h .by-col .low i j) (h .by-col .high i j) t false e ∙ transposed-elem (real r) b (plan .tail .right) j p ∙ plain-real r (plan .tail .«right_conj») b (plan .tail .right) p j) s))
+          ((eu ∙ ap (λ (w : View). elem (real r) a w i p) (sym (h .by-col .left)) ∙ elem-conj-real r (plan .tail .«left_conj») a (plan .tail .left) i p) s)
+          ((ev ∙ at-elem (real r) b head tail _ j p k _ l (h .by-col .low i j) (h .by-col .high i j) t false e ∙ transposed-elem (real r) b (plan .tail .right) j p ∙ elem-conj-real r (plan .tail .«right_conj») b (plan .tail .right) p j) s))

@@ -2,7 +2,7 @@
 
 ghost use mathlib.Core.Path.{_≡_};
 ghost use Prim.Native.Nat.{_+_, _%_, _^_, _≤_};
-ghost use Rattle.product_plan.specs.Plan.{turnOf, bentStep};
+ghost use Rattle.product_plan.specs.Plan.{termsBefore, bentStep};
 use std::num::wrapping_add_usize;
 use view::View;
 
@@ -40,8 +40,8 @@ pub struct Folded {
 
 // The number of terms before the turn, which is at most n.
 pub fn turn_at(t: Turn, i: usize, j: usize, n: usize) -> usize
-    requires { ⌜ turnOf t i j ≤ n ⌝ }
-    ensures { λ r. ⌜ r ≡ turnOf t i j ⌝ }
+    requires { ⌜ termsBefore t i j ≤ n ⌝ }
+    ensures { λ r. ⌜ r ≡ termsBefore t i j ⌝ }
 {
     match t {
         Turn::AtRow => i,

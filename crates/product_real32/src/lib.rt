@@ -7,9 +7,9 @@ ghost use Prim.Native.Nat.{_<_, _-_};
 ghost use Rattle.number.specs.Kind.{real32};
 ghost use Rattle.number.specs.Scaling.{scaleBy32};
 ghost use Rattle.view.specs.Triangle.{inTriangle};
-ghost use Rattle.slab.specs.Run.{more};
-ghost use Rattle.slab.specs.Elem.{lent, Shows};
-ghost use Rattle.slab.specs.Update.{everywhere, row as rowOf, update};
+ghost use Rattle.slab.specs.Run.{plusTerms};
+ghost use Rattle.slab.specs.Elem.{lent, Within};
+ghost use Rattle.slab.specs.Update.{everywhere, replaced, updateRow, update};
 ghost use Rattle.blas.specs.Outcome.{Gives};
 ghost use Rattle.blas.specs.Gemm;
 ghost use Rattle.blas.specs.Gemv;
@@ -19,7 +19,7 @@ ghost use Rattle.blas.specs.Herk;
 ghost use Rattle.blas.specs.Symm;
 ghost use Rattle.blas.specs.Syrk;
 ghost use Rattle.product_plan.specs.Plans.{ReadySided, sidedWork};
-ghost use Rattle.product_plan.specs.Plan.{term, replaced, planChange, foldedChange, foldedProduct, LeftWalk, RightWalk, Spans, Ready, FoldedReady, ByRow, ByCol};
+ghost use Rattle.product_plan.specs.Plan.{term, planChange, foldedChange, foldedProduct, LeftWalk, RightWalk, FactorsWithin, Ready, FoldedReady, ByRow, ByCol};
 use judge::check_gemm;
 use judge::check_gemv;
 use judge::check_hemm;
@@ -75,8 +75,8 @@ fn add_run(
     end: usize,
     sum: Real32,
 ) -> Real32
-    requires { ⌜ Spans f (real32 .count (now a)) (real32 .count (now b)) i j from end ⌝ }
-    ensures { λ r. ⌜ r .0 ≡ more real32 (sum .0) (term real32 f (now (a .entry)) (now (b .entry)) i j) from (end - from) ⌝ }
+    requires { ⌜ FactorsWithin f (real32 .count (now a)) (real32 .count (now b)) i j from end ⌝ }
+    ensures { λ r. ⌜ r .0 ≡ plusTerms real32 (sum .0) (term real32 f (now (a .entry)) (now (b .entry)) i j) from (end - from) ⌝ }
 {
     let mut total = sum;
     let mut p = from;
@@ -89,7 +89,7 @@ fn add_run(
 
 // Element (i, j) of the target scaled, with alpha times the sum added.
 fn settle(v: View, alpha: Real32, beta: Beta32, c: &mut [f32], i: usize, j: usize, sum: Real32)
-    requires { ⌜ Shows v (real32 .count (now c)) i j ⌝ }
+    requires { ⌜ Within v (real32 .count (now c)) i j ⌝ }
     ensures { λ _. ⌜ now (c .exit) ≡ replaced real32 v i j (λ x. real32 .add (scaleBy32 beta x) (real32 .mul (alpha .0) (sum .0))) (now (c .entry)) ⌝ }
 {
     let k = place(v, i, j);
@@ -157,7 +157,7 @@ fn two_entries(
 // Row i of the target.
 fn row(plan: Plan, a: &[f32], b: &[f32], alpha: Real32, beta: Beta32, c: &mut [f32], i: usize)
     requires { ⌜ Ready plan (real32 .count (now a)) (real32 .count (now b)) (real32 .count (now c)) × (i < plan .target .rows) ⌝ }
-    ensures { λ _. ⌜ now (c .exit) ≡ rowOf real32 (plan .target) everywhere (planChange real32 plan (scaleBy32 beta) (real32 .mul (alpha .0)) (now (a .entry)) (now (b .entry))) i (plan .target .cols) (now (c .entry)) ⌝ }
+    ensures { λ _. ⌜ now (c .exit) ≡ updateRow real32 (plan .target) everywhere (planChange real32 plan (scaleBy32 beta) (real32 .mul (alpha .0)) (now (a .entry)) (now (b .entry))) i (plan .target .cols) (now (c .entry)) ⌝ }
 {
     let n = cols(plan.target);
     let pairs = n / 2;
@@ -423,7 +423,7 @@ fn symm_left_row(
     i: usize,
 )
     requires { ⌜ FoldedReady plan (real32 .count (now a)) (real32 .count (now b)) (real32 .count (now c)) × ByRow plan × (i < plan .target .rows) ⌝ }
-    ensures { λ _. ⌜ now (c .exit) ≡ rowOf real32 (plan .target) everywhere (foldedChange real32 plan (scaleBy32 beta) (real32 .mul (alpha .0)) (now (a .entry)) (now (b .entry))) i (plan .target .cols) (now (c .entry)) ⌝ }
+    ensures { λ _. ⌜ now (c .exit) ≡ updateRow real32 (plan .target) everywhere (foldedChange real32 plan (scaleBy32 beta) (real32 .mul (alpha .0)) (now (a .entry)) (now (b .entry))) i (plan .target .cols) (now (c .entry)) ⌝ }
 {
     let n = cols(plan.target);
     let pairs = n / 2;
@@ -461,7 +461,7 @@ fn symm_right_row(
     i: usize,
 )
     requires { ⌜ FoldedReady plan (real32 .count (now a)) (real32 .count (now b)) (real32 .count (now c)) × ByCol plan × (i < plan .target .rows) ⌝ }
-    ensures { λ _. ⌜ now (c .exit) ≡ rowOf real32 (plan .target) everywhere (foldedChange real32 plan (scaleBy32 beta) (real32 .mul (alpha .0)) (now (a .entry)) (now (b .entry))) i (plan .target .cols) (now (c .entry)) ⌝ }
+    ensures { λ _. ⌜ now (c .exit) ≡ updateRow real32 (plan .target) everywhere (foldedChange real32 plan (scaleBy32 beta) (real32 .mul (alpha .0)) (now (a .entry)) (now (b .entry))) i (plan .target .cols) (now (c .entry)) ⌝ }
 {
     let n = cols(plan.target);
     let mut j = 0;
@@ -554,7 +554,7 @@ fn hemm_left_row(
     i: usize,
 )
     requires { ⌜ FoldedReady plan (real32 .count (now a)) (real32 .count (now b)) (real32 .count (now c)) × ByRow plan × (i < plan .target .rows) ⌝ }
-    ensures { λ _. ⌜ now (c .exit) ≡ rowOf real32 (plan .target) everywhere (foldedChange real32 plan (scaleBy32 beta) (real32 .mul (alpha .0)) (now (a .entry)) (now (b .entry))) i (plan .target .cols) (now (c .entry)) ⌝ }
+    ensures { λ _. ⌜ now (c .exit) ≡ updateRow real32 (plan .target) everywhere (foldedChange real32 plan (scaleBy32 beta) (real32 .mul (alpha .0)) (now (a .entry)) (now (b .entry))) i (plan .target .cols) (now (c .entry)) ⌝ }
 {
     let n = cols(plan.target);
     let pairs = n / 2;
@@ -592,7 +592,7 @@ fn hemm_right_row(
     i: usize,
 )
     requires { ⌜ FoldedReady plan (real32 .count (now a)) (real32 .count (now b)) (real32 .count (now c)) × ByCol plan × (i < plan .target .rows) ⌝ }
-    ensures { λ _. ⌜ now (c .exit) ≡ rowOf real32 (plan .target) everywhere (foldedChange real32 plan (scaleBy32 beta) (real32 .mul (alpha .0)) (now (a .entry)) (now (b .entry))) i (plan .target .cols) (now (c .entry)) ⌝ }
+    ensures { λ _. ⌜ now (c .exit) ≡ updateRow real32 (plan .target) everywhere (foldedChange real32 plan (scaleBy32 beta) (real32 .mul (alpha .0)) (now (a .entry)) (now (b .entry))) i (plan .target .cols) (now (c .entry)) ⌝ }
 {
     let n = cols(plan.target);
     let mut j = 0;
@@ -686,7 +686,7 @@ fn syrk_row(
     i: usize,
 )
     requires { ⌜ Ready plan (real32 .count (now a)) (real32 .count (now b)) (real32 .count (now c)) × (i < plan .target .rows) × (i < plan .target .cols) ⌝ }
-    ensures { λ _. ⌜ now (c .exit) ≡ rowOf real32 (plan .target) (inTriangle uplo) (planChange real32 plan (scaleBy32 beta) (real32 .mul (alpha .0)) (now (a .entry)) (now (b .entry))) i (plan .target .cols) (now (c .entry)) ⌝ }
+    ensures { λ _. ⌜ now (c .exit) ≡ updateRow real32 (plan .target) (inTriangle uplo) (planChange real32 plan (scaleBy32 beta) (real32 .mul (alpha .0)) (now (a .entry)) (now (b .entry))) i (plan .target .cols) (now (c .entry)) ⌝ }
 {
     let end = end_col(uplo, i, cols(plan.target));
     let mut j = first_col(uplo, i);
@@ -758,7 +758,7 @@ fn herk_row(
     i: usize,
 )
     requires { ⌜ Ready plan (real32 .count (now a)) (real32 .count (now b)) (real32 .count (now c)) × (i < plan .target .rows) × (i < plan .target .cols) ⌝ }
-    ensures { λ _. ⌜ now (c .exit) ≡ rowOf real32 (plan .target) (inTriangle uplo) (planChange real32 plan (scaleBy32 beta) (real32 .mul (alpha .0)) (now (a .entry)) (now (b .entry))) i (plan .target .cols) (now (c .entry)) ⌝ }
+    ensures { λ _. ⌜ now (c .exit) ≡ updateRow real32 (plan .target) (inTriangle uplo) (planChange real32 plan (scaleBy32 beta) (real32 .mul (alpha .0)) (now (a .entry)) (now (b .entry))) i (plan .target .cols) (now (c .entry)) ⌝ }
 {
     let end = end_col(uplo, i, cols(plan.target));
     let mut j = first_col(uplo, i);

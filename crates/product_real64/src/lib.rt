@@ -7,9 +7,9 @@ ghost use Prim.Native.Nat.{_<_, _-_};
 ghost use Rattle.number.specs.Kind.{real64};
 ghost use Rattle.number.specs.Scaling.{scaleBy64};
 ghost use Rattle.view.specs.Triangle.{inTriangle};
-ghost use Rattle.slab.specs.Run.{more};
-ghost use Rattle.slab.specs.Elem.{lent, Shows};
-ghost use Rattle.slab.specs.Update.{everywhere, row as rowOf, update};
+ghost use Rattle.slab.specs.Run.{plusTerms};
+ghost use Rattle.slab.specs.Elem.{lent, Within};
+ghost use Rattle.slab.specs.Update.{everywhere, replaced, updateRow, update};
 ghost use Rattle.blas.specs.Outcome.{Gives};
 ghost use Rattle.blas.specs.Gemm;
 ghost use Rattle.blas.specs.Gemv;
@@ -19,7 +19,7 @@ ghost use Rattle.blas.specs.Herk;
 ghost use Rattle.blas.specs.Symm;
 ghost use Rattle.blas.specs.Syrk;
 ghost use Rattle.product_plan.specs.Plans.{ReadySided, sidedWork};
-ghost use Rattle.product_plan.specs.Plan.{term, replaced, planChange, foldedChange, foldedProduct, LeftWalk, RightWalk, Spans, Ready, FoldedReady, ByRow, ByCol};
+ghost use Rattle.product_plan.specs.Plan.{term, planChange, foldedChange, foldedProduct, LeftWalk, RightWalk, FactorsWithin, Ready, FoldedReady, ByRow, ByCol};
 use judge::check_gemm;
 use judge::check_gemv;
 use judge::check_hemm;
@@ -75,8 +75,8 @@ fn add_run(
     end: usize,
     sum: Real64,
 ) -> Real64
-    requires { ⌜ Spans f (real64 .count (now a)) (real64 .count (now b)) i j from end ⌝ }
-    ensures { λ r. ⌜ r .0 ≡ more real64 (sum .0) (term real64 f (now (a .entry)) (now (b .entry)) i j) from (end - from) ⌝ }
+    requires { ⌜ FactorsWithin f (real64 .count (now a)) (real64 .count (now b)) i j from end ⌝ }
+    ensures { λ r. ⌜ r .0 ≡ plusTerms real64 (sum .0) (term real64 f (now (a .entry)) (now (b .entry)) i j) from (end - from) ⌝ }
 {
     let mut total = sum;
     let mut p = from;
@@ -89,7 +89,7 @@ fn add_run(
 
 // Element (i, j) of the target scaled, with alpha times the sum added.
 fn settle(v: View, alpha: Real64, beta: Beta64, c: &mut [f64], i: usize, j: usize, sum: Real64)
-    requires { ⌜ Shows v (real64 .count (now c)) i j ⌝ }
+    requires { ⌜ Within v (real64 .count (now c)) i j ⌝ }
     ensures { λ _. ⌜ now (c .exit) ≡ replaced real64 v i j (λ x. real64 .add (scaleBy64 beta x) (real64 .mul (alpha .0) (sum .0))) (now (c .entry)) ⌝ }
 {
     let k = place(v, i, j);
@@ -157,7 +157,7 @@ fn two_entries(
 // Row i of the target.
 fn row(plan: Plan, a: &[f64], b: &[f64], alpha: Real64, beta: Beta64, c: &mut [f64], i: usize)
     requires { ⌜ Ready plan (real64 .count (now a)) (real64 .count (now b)) (real64 .count (now c)) × (i < plan .target .rows) ⌝ }
-    ensures { λ _. ⌜ now (c .exit) ≡ rowOf real64 (plan .target) everywhere (planChange real64 plan (scaleBy64 beta) (real64 .mul (alpha .0)) (now (a .entry)) (now (b .entry))) i (plan .target .cols) (now (c .entry)) ⌝ }
+    ensures { λ _. ⌜ now (c .exit) ≡ updateRow real64 (plan .target) everywhere (planChange real64 plan (scaleBy64 beta) (real64 .mul (alpha .0)) (now (a .entry)) (now (b .entry))) i (plan .target .cols) (now (c .entry)) ⌝ }
 {
     let n = cols(plan.target);
     let pairs = n / 2;
@@ -423,7 +423,7 @@ fn symm_left_row(
     i: usize,
 )
     requires { ⌜ FoldedReady plan (real64 .count (now a)) (real64 .count (now b)) (real64 .count (now c)) × ByRow plan × (i < plan .target .rows) ⌝ }
-    ensures { λ _. ⌜ now (c .exit) ≡ rowOf real64 (plan .target) everywhere (foldedChange real64 plan (scaleBy64 beta) (real64 .mul (alpha .0)) (now (a .entry)) (now (b .entry))) i (plan .target .cols) (now (c .entry)) ⌝ }
+    ensures { λ _. ⌜ now (c .exit) ≡ updateRow real64 (plan .target) everywhere (foldedChange real64 plan (scaleBy64 beta) (real64 .mul (alpha .0)) (now (a .entry)) (now (b .entry))) i (plan .target .cols) (now (c .entry)) ⌝ }
 {
     let n = cols(plan.target);
     let pairs = n / 2;
@@ -461,7 +461,7 @@ fn symm_right_row(
     i: usize,
 )
     requires { ⌜ FoldedReady plan (real64 .count (now a)) (real64 .count (now b)) (real64 .count (now c)) × ByCol plan × (i < plan .target .rows) ⌝ }
-    ensures { λ _. ⌜ now (c .exit) ≡ rowOf real64 (plan .target) everywhere (foldedChange real64 plan (scaleBy64 beta) (real64 .mul (alpha .0)) (now (a .entry)) (now (b .entry))) i (plan .target .cols) (now (c .entry)) ⌝ }
+    ensures { λ _. ⌜ now (c .exit) ≡ updateRow real64 (plan .target) everywhere (foldedChange real64 plan (scaleBy64 beta) (real64 .mul (alpha .0)) (now (a .entry)) (now (b .entry))) i (plan .target .cols) (now (c .entry)) ⌝ }
 {
     let n = cols(plan.target);
     let mut j = 0;
@@ -554,7 +554,7 @@ fn hemm_left_row(
     i: usize,
 )
     requires { ⌜ FoldedReady plan (real64 .count (now a)) (real64 .count (now b)) (real64 .count (now c)) × ByRow plan × (i < plan .target .rows) ⌝ }
-    ensures { λ _. ⌜ now (c .exit) ≡ rowOf real64 (plan .target) everywhere (foldedChange real64 plan (scaleBy64 beta) (real64 .mul (alpha .0)) (now (a .entry)) (now (b .entry))) i (plan .target .cols) (now (c .entry)) ⌝ }
+    ensures { λ _. ⌜ now (c .exit) ≡ updateRow real64 (plan .target) everywhere (foldedChange real64 plan (scaleBy64 beta) (real64 .mul (alpha .0)) (now (a .entry)) (now (b .entry))) i (plan .target .cols) (now (c .entry)) ⌝ }
 {
     let n = cols(plan.target);
     let pairs = n / 2;
@@ -592,7 +592,7 @@ fn hemm_right_row(
     i: usize,
 )
     requires { ⌜ FoldedReady plan (real64 .count (now a)) (real64 .count (now b)) (real64 .count (now c)) × ByCol plan × (i < plan .target .rows) ⌝ }
-    ensures { λ _. ⌜ now (c .exit) ≡ rowOf real64 (plan .target) everywhere (foldedChange real64 plan (scaleBy64 beta) (real64 .mul (alpha .0)) (now (a .entry)) (now (b .entry))) i (plan .target .cols) (now (c .entry)) ⌝ }
+    ensures { λ _. ⌜ now (c .exit) ≡ updateRow real64 (plan .target) everywhere (foldedChange real64 plan (scaleBy64 beta) (real64 .mul (alpha .0)) (now (a .entry)) (now (b .entry))) i (plan .target .cols) (now (c .entry)) ⌝ }
 {
     let n = cols(plan.target);
     let mut j = 0;
@@ -686,7 +686,7 @@ fn syrk_row(
     i: usize,
 )
     requires { ⌜ Ready plan (real64 .count (now a)) (real64 .count (now b)) (real64 .count (now c)) × (i < plan .target .rows) × (i < plan .target .cols) ⌝ }
-    ensures { λ _. ⌜ now (c .exit) ≡ rowOf real64 (plan .target) (inTriangle uplo) (planChange real64 plan (scaleBy64 beta) (real64 .mul (alpha .0)) (now (a .entry)) (now (b .entry))) i (plan .target .cols) (now (c .entry)) ⌝ }
+    ensures { λ _. ⌜ now (c .exit) ≡ updateRow real64 (plan .target) (inTriangle uplo) (planChange real64 plan (scaleBy64 beta) (real64 .mul (alpha .0)) (now (a .entry)) (now (b .entry))) i (plan .target .cols) (now (c .entry)) ⌝ }
 {
     let end = end_col(uplo, i, cols(plan.target));
     let mut j = first_col(uplo, i);
@@ -758,7 +758,7 @@ fn herk_row(
     i: usize,
 )
     requires { ⌜ Ready plan (real64 .count (now a)) (real64 .count (now b)) (real64 .count (now c)) × (i < plan .target .rows) × (i < plan .target .cols) ⌝ }
-    ensures { λ _. ⌜ now (c .exit) ≡ rowOf real64 (plan .target) (inTriangle uplo) (planChange real64 plan (scaleBy64 beta) (real64 .mul (alpha .0)) (now (a .entry)) (now (b .entry))) i (plan .target .cols) (now (c .entry)) ⌝ }
+    ensures { λ _. ⌜ now (c .exit) ≡ updateRow real64 (plan .target) (inTriangle uplo) (planChange real64 plan (scaleBy64 beta) (real64 .mul (alpha .0)) (now (a .entry)) (now (b .entry))) i (plan .target .cols) (now (c .entry)) ⌝ }
 {
     let end = end_col(uplo, i, cols(plan.target));
     let mut j = first_col(uplo, i);

@@ -7,14 +7,15 @@ ghost use Rattle.number.specs.Kind.{complex};
 ghost use Rattle.number.specs.Scaling.{scaleByComplex};
 ghost use Rattle.view.specs.Place.{index};
 ghost use Rattle.view.specs.Triangle.{inTriangle};
-ghost use Rattle.slab.specs.Elem.{elem, lent, Shows};
-ghost use Rattle.slab.specs.Update.{row, update};
+ghost use Rattle.slab.specs.Elem.{elem, lent, Within};
+ghost use Rattle.slab.specs.Update.{replaced, updateRow, update};
+ghost use Rattle.slab.specs.Run.{elemConj};
 ghost use Rattle.blas.specs.Outcome.{Gives};
 ghost use Rattle.blas.specs.Her;
 ghost use Rattle.blas.specs.Her2;
 ghost use Rattle.blas.specs.Her2k;
 ghost use Rattle.blas.specs.Syr2k;
-ghost use Rattle.rank_plan.specs.Change.{replaced, reading, addOne, addTwo, pairAt, pairsAt, weighedAt, weighedsAt, syr2kChange, her2kChange};
+ghost use Rattle.rank_plan.specs.Change.{addOne, addTwo, pairAt, pairsAt, weighedAt, weighedsAt, syr2kChange, her2kChange};
 ghost use Rattle.rank_plan.specs.Ready.{One, Two, RowAt, Entry, Paired};
 use judge::check_her;
 use judge::check_her2;
@@ -49,8 +50,8 @@ use view::rows;
 
 // Element (i, j) of a matrix, conjugated where asked.
 fn read(conj: bool, s: &[f64], v: View, i: usize, j: usize) -> Complex
-    requires { ⌜ Shows v (complex .count (now s)) i j ⌝ }
-    ensures { λ r. ⌜ r ≡ reading complex conj (now (s .entry)) v i j ⌝ }
+    requires { ⌜ Within v (complex .count (now s)) i j ⌝ }
+    ensures { λ r. ⌜ r ≡ elemConj complex conj (now (s .entry)) v i j ⌝ }
 {
     let x = elem_complex(s, v, i, j);
     if conj { x.conj() } else { x }
@@ -68,7 +69,7 @@ fn her_entry(
     i: usize,
     j: usize,
 )
-    requires { ⌜ Shows vx (complex .count (now x)) j 0 × Shows va (complex .count (now a)) i j × (u ≡ index vx j 0) × (t ≡ index va i j) ⌝ }
+    requires { ⌜ Within vx (complex .count (now x)) j 0 × Within va (complex .count (now a)) i j × (u ≡ index vx j 0) × (t ≡ index va i j) ⌝ }
     ensures { λ _. ⌜ now (a .exit) ≡ replaced complex va i j (addOne complex w (elem complex (now (x .entry)) vx) j) (now (a .entry)) ⌝ }
 {
     let old = get_complex(a, t);
@@ -92,7 +93,7 @@ fn her_row(
     n: usize,
 )
     requires { ⌜ One vx (complex .count (now x)) va (complex .count (now a)) × RowAt uplo vx va i own u t begin n ⌝ }
-    ensures { λ _. ⌜ now (a .exit) ≡ row complex va (inTriangle uplo) (Her.herChange complex alpha (elem complex (now (x .entry)) vx)) i (va .cols) (now (a .entry)) ⌝ }
+    ensures { λ _. ⌜ now (a .exit) ≡ updateRow complex va (inTriangle uplo) (Her.herChange complex alpha (elem complex (now (x .entry)) vx)) i (va .cols) (now (a .entry)) ⌝ }
 {
     let w = get_complex(x, own).scale_real(alpha);
     let along = col_step(va);
@@ -186,7 +187,7 @@ fn her2_entry(
     i: usize,
     j: usize,
 )
-    requires { ⌜ Shows vx (complex .count (now x)) j 0 × Shows vy (complex .count (now y)) j 0 × Shows va (complex .count (now a)) i j × (u ≡ index vx j 0) × (z ≡ index vy j 0) × (t ≡ index va i j) ⌝ }
+    requires { ⌜ Within vx (complex .count (now x)) j 0 × Within vy (complex .count (now y)) j 0 × Within va (complex .count (now a)) i j × (u ≡ index vx j 0) × (z ≡ index vy j 0) × (t ≡ index va i j) ⌝ }
     ensures { λ _. ⌜ now (a .exit) ≡ replaced complex va i j (addTwo complex w w2 (elem complex (now (x .entry)) vx) (elem complex (now (y .entry)) vy) j) (now (a .entry)) ⌝ }
 {
     let old = get_complex(a, t);
@@ -215,7 +216,7 @@ fn her2_row(
     n: usize,
 )
     requires { ⌜ Two vx (complex .count (now x)) vy (complex .count (now y)) va (complex .count (now a)) × RowAt uplo vx va i ownx u t begin n × RowAt uplo vy va i owny z t begin n ⌝ }
-    ensures { λ _. ⌜ now (a .exit) ≡ row complex va (inTriangle uplo) (Her2.her2Change complex alpha (elem complex (now (x .entry)) vx) (elem complex (now (y .entry)) vy)) i (va .cols) (now (a .entry)) ⌝ }
+    ensures { λ _. ⌜ now (a .exit) ≡ updateRow complex va (inTriangle uplo) (Her2.her2Change complex alpha (elem complex (now (x .entry)) vx) (elem complex (now (y .entry)) vy)) i (va .cols) (now (a .entry)) ⌝ }
 {
     let w = alpha.mul(get_complex(x, ownx));
     let conjugate = alpha.conj();
@@ -410,7 +411,7 @@ fn syr2k_entry(
     i: usize,
     j: usize,
 )
-    requires { ⌜ Entry plan (complex .count (now a)) (complex .count (now b)) i j × Shows (plan .target) (complex .count (now c)) i j ⌝ }
+    requires { ⌜ Entry plan (complex .count (now a)) (complex .count (now b)) i j × Within (plan .target) (complex .count (now c)) i j ⌝ }
     ensures { λ _. ⌜ now (c .exit) ≡ replaced complex (plan .target) i j (syr2kChange complex plan (now (a .entry)) (now (b .entry)) alpha (scaleByComplex beta) i j) (now (c .entry)) ⌝ }
 {
     let k = place(plan.target, i, j);
@@ -430,7 +431,7 @@ fn syr2k_row(
     i: usize,
 )
     requires { ⌜ Paired plan (complex .count (now a)) (complex .count (now b)) (complex .count (now c)) × (i < plan .target .rows) ⌝ }
-    ensures { λ _. ⌜ now (c .exit) ≡ row complex (plan .target) (inTriangle (plan .uplo)) (syr2kChange complex plan (now (a .entry)) (now (b .entry)) alpha (scaleByComplex beta)) i (plan .target .cols) (now (c .entry)) ⌝ }
+    ensures { λ _. ⌜ now (c .exit) ≡ updateRow complex (plan .target) (inTriangle (plan .uplo)) (syr2kChange complex plan (now (a .entry)) (now (b .entry)) alpha (scaleByComplex beta)) i (plan .target .cols) (now (c .entry)) ⌝ }
 {
     let uplo = plan.uplo;
     let end = end_col(uplo, i, cols(plan.target));
@@ -465,7 +466,7 @@ fn her2k_entry(
     i: usize,
     j: usize,
 )
-    requires { ⌜ Entry plan (complex .count (now a)) (complex .count (now b)) i j × Shows (plan .target) (complex .count (now c)) i j ⌝ }
+    requires { ⌜ Entry plan (complex .count (now a)) (complex .count (now b)) i j × Within (plan .target) (complex .count (now c)) i j ⌝ }
     ensures { λ _. ⌜ now (c .exit) ≡ replaced complex (plan .target) i j (her2kChange complex plan (now (a .entry)) (now (b .entry)) alpha (scaleByComplex beta) i j) (now (c .entry)) ⌝ }
 {
     let k = place(plan.target, i, j);
@@ -485,7 +486,7 @@ fn her2k_row(
     i: usize,
 )
     requires { ⌜ Paired plan (complex .count (now a)) (complex .count (now b)) (complex .count (now c)) × (i < plan .target .rows) ⌝ }
-    ensures { λ _. ⌜ now (c .exit) ≡ row complex (plan .target) (inTriangle (plan .uplo)) (her2kChange complex plan (now (a .entry)) (now (b .entry)) alpha (scaleByComplex beta)) i (plan .target .cols) (now (c .entry)) ⌝ }
+    ensures { λ _. ⌜ now (c .exit) ≡ updateRow complex (plan .target) (inTriangle (plan .uplo)) (her2kChange complex plan (now (a .entry)) (now (b .entry)) alpha (scaleByComplex beta)) i (plan .target .cols) (now (c .entry)) ⌝ }
 {
     let uplo = plan.uplo;
     let end = end_col(uplo, i, cols(plan.target));

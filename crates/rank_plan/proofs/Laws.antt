@@ -9,7 +9,8 @@ use Rattle.slab.specs.Elem.{elem}
 use Rattle.blas.specs.Matrix.{Matrix}
 use Rattle.blas.specs.Her.{herChange}
 use Rattle.blas.specs.Her2.{her2Change}
-use Rattle.rank_plan.specs.Change.{replaced, addOne, addTwo}
+use Rattle.slab.specs.Update.{replaced}
+use Rattle.rank_plan.specs.Change.{addOne, addTwo}
 
 -- k is the element's place, `old` what stands there, `new` what becomes of it
 pub put-replaced : (K : Kind) (v : View) (i j : ℕ) (f : K .Elem → K .Elem) (c after : List (K .Cell)) (k : ℕ) (old new : K .Elem)

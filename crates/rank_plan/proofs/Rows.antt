@@ -8,10 +8,10 @@ use Rattle.view.specs.declared.View.{View}
 use Rattle.view.specs.declared.UpLo.{UpLo}
 use Rattle.view.specs.declared.UpLo.the-variants.{Upper, Lower}
 use Rattle.view.specs.Triangle.{inTriangle, firstCol, endCol}
-use Rattle.slab.specs.Update.{Change, row}
+use Rattle.slab.specs.Update.{Change, updateRow}
 use Rattle.slab.proofs.Columns.{columns-last, row-columns}
 pub use Rattle.slab.proofs.LoopLaws.{span, span-start, span-next}
-use Rattle.rank_plan.specs.Ready.{Square}
+use Rattle.rank_plan.specs.Ready.{SquareWithin}
 
 -- ---- the columns in the named triangle
 
@@ -27,13 +27,13 @@ first-le Lower i n h = omega arith
 
 -- the whole loop is the fold over the row, where u' says of each of its elements what u says
 pub span-last : (K : Kind) (v : View) (i : ℕ) (uplo : UpLo) (u u' : Change K) (n a e j : ℕ) (s₀ s : List (K .Cell)) → n ≡ v .cols → a ≡ firstCol uplo i → e ≡ endCol uplo i n → i < n → j ≤ e → e ≤ j
-    → s ≡ span K v u i a j s₀ → ((j : ℕ) (x : K .Elem) → u i j x ≡ u' i j x) → s ≡ row K v (inTriangle uplo) u' i (v .cols) s₀
+    → s ≡ span K v u i a j s₀ → ((j : ℕ) (x : K .Elem) → u i j x ≡ u' i j x) → s ≡ updateRow K v (inTriangle uplo) u' i (v .cols) s₀
 span-last K v i uplo u u' n a e j s₀ s en ea ee h g l p same =
     columns-last K v (inTriangle uplo) u u' i n a e (row-columns uplo i n a e n h refl ea ee) same j s₀ s en g l p
 
 -- ---- where the loop is, in a square target
 
-module _ (v : View) (len : ℕ) (square : Square v len) (i : ℕ) (h : i < v .rows) (n : ℕ) (en : n ≡ v .cols) where
+module _ (v : View) (len : ℕ) (square : SquareWithin v len) (i : ℕ) (h : i < v .rows) (n : ℕ) (en : n ≡ v .cols) where
   pub row-lt : i < n
   row-lt = omega (arith, h, en, square .cols)
 

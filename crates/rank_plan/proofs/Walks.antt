@@ -11,10 +11,9 @@ use Rattle.view.specs.Place.{index}
 use Rattle.view.specs.Triangle.{inTriangle, firstCol}
 use Rattle.view.specs.Steps.{stepOf}
 use Rattle.view.specs.StepLaws.{next-col, next-row, next-diagonal, index-start}
-use Rattle.slab.specs.Elem.{Shows}
-use Rattle.slab.specs.Update.{Change, row}
-use Rattle.rank_plan.specs.Change.{replaced}
-use Rattle.rank_plan.specs.Ready.{Sized, Square, One, Two, RowAt}
+use Rattle.slab.specs.Elem.{Within}
+use Rattle.slab.specs.Update.{Change, updateRow, replaced}
+use Rattle.rank_plan.specs.Ready.{Sized, SquareWithin, One, Two, RowAt}
 use Rattle.rank_plan.proofs.Inside.{one-shows, two-shows}
 use Rattle.rank_plan.proofs.Rows.{span, span-start, span-next, span-last, end-le}
 
@@ -29,7 +28,7 @@ pub record Along (vx va : View) (i begin n j u t : ℕ) : Type 0 where
   pub factor : j < n → u ≡ index vx (begin + j) 0
   pub target : j < n → t ≡ index va i (begin + j)
 
-module _ {uplo : UpLo} {vx va : View} {la i own u t begin n : ℕ} (square : Square va la) (r : RowAt uplo vx va i own u t begin n) where
+module _ {uplo : UpLo} {vx va : View} {la i own u t begin n : ℕ} (square : SquareWithin va la) (r : RowAt uplo vx va i own u t begin n) where
   -- the columns are the target's
   pub along-lt : (j : ℕ) → j < n → begin + j < va .rows
   along-lt j h =
@@ -64,7 +63,7 @@ module _ {uplo : UpLo} {vx va : View} {la i own u t begin n : ℕ} (square : Squ
 
   -- after the n columns the slab is the fold over the row
   pub along-last : (K : Kind) (f f' : Change K) {j : ℕ} (s₀ s : List (K .Cell)) → j ≤ n → n ≤ j → s ≡ span K va f i begin (begin + j) s₀
-      → ((k : ℕ) (z : K .Elem) → f i k z ≡ f' i k z) → s ≡ row K va (inTriangle uplo) f' i (va .cols) s₀
+      → ((k : ℕ) (z : K .Elem) → f i k z ≡ f' i k z) → s ≡ updateRow K va (inTriangle uplo) f' i (va .cols) s₀
   along-last K f f' {j} s₀ s h g p same =
       span-last K va i uplo f f' (va .cols) begin (begin + n) (begin + j) s₀ s refl (r .starts) (r .ends) (omega (arith, r .row, square .cols)) (omega arith) (omega arith) p same
 
@@ -83,13 +82,13 @@ module _ (K : Kind) (v : View) (f : Change K) (i begin : ℕ) (s₀ : List (K .C
 -- what the turn for column begin + j asks; the target's slab keeps its length
 module _ {uplo : UpLo} {vx : View} {lx : ℕ} {va : View} {la la' i own u t begin n j p q : ℕ} (kept : la' ≡ la) (h : j < n)
     (r : RowAt uplo vx va i own u t begin n) (a : Along vx va i begin n j p q) where
-  pub one-entry : One vx lx va la → Shows vx lx (begin + j) 0 × Shows va la' i (begin + j) × (p ≡ index vx (begin + j) 0) × (q ≡ index va i (begin + j))
+  pub one-entry : One vx lx va la → Within vx lx (begin + j) 0 × Within va la' i (begin + j) × (p ≡ index vx (begin + j) 0) × (q ≡ index va i (begin + j))
   one-entry o =
       let s = one-shows vx lx va la la' kept o i (begin + j) (r .row) (along-lt (o .target) r j h) in
       (s .0, s .1, a .factor h, a .target h)
 
   pub two-entry : {vy : View} {ly p' : ℕ} → Two vx lx vy ly va la → Along vy va i begin n j p' q
-      → Shows vx lx (begin + j) 0 × Shows vy ly (begin + j) 0 × Shows va la' i (begin + j) × (p ≡ index vx (begin + j) 0) × (p' ≡ index vy (begin + j) 0) × (q ≡ index va i (begin + j))
+      → Within vx lx (begin + j) 0 × Within vy ly (begin + j) 0 × Within va la' i (begin + j) × (p ≡ index vx (begin + j) 0) × (p' ≡ index vy (begin + j) 0) × (q ≡ index va i (begin + j))
   two-entry {vy} {ly} o b =
       let s = two-shows vx lx vy ly va la la' kept o i (begin + j) (r .row) (along-lt (o .target) r j h) in
       (s .0, s .1, s .2, a .factor h, b .factor h, a .target h)
@@ -106,7 +105,7 @@ pub record Down (uplo : UpLo) (vx va : View) (i own t : ℕ) : Type 0 where
   pub weight : i < va .rows → own ≡ index vx i 0
   pub target : i < va .rows → t ≡ index va i (firstCol uplo i)
 
-module _ {vx : View} {lx : ℕ} {va : View} {la : ℕ} (x : Sized vx lx (va .rows) 1) (square : Square va la) (small-x : lx ≤ 2 ^ 63) (small : la ≤ 2 ^ 63) where
+module _ {vx : View} {lx : ℕ} {va : View} {la : ℕ} (x : Sized vx lx (va .rows) 1) (square : SquareWithin va la) (small-x : lx ≤ 2 ^ 63) (small : la ≤ 2 ^ 63) where
   column-start : 0 < va .rows → vx .start ≡ index vx 0 0
   column-start h = sym (index-start vx lx small-x (x .fits .fits) (omega (arith, x .rows)) (omega (arith, x .cols)))
 

@@ -1,22 +1,11 @@
 -- What becomes of an element of the target, over any number kind.
 use Prim.Native.Nat.{ℕ}
-use mathlib.Core.Bool.{Bool, cond}
 use mathlib.Core.List.{List}
 use Rattle.number.specs.Kind.{Kind}
-use Rattle.view.specs.declared.View.{View}
-use Rattle.view.specs.Place.{index}
-use Rattle.slab.specs.Elem.{elem}
+use Rattle.slab.specs.Run.{elemConj}
 use Rattle.slab.specs.Update.{Change}
 use Rattle.blas.specs.Matrix.{Matrix, pairSum}
 use Rattle.rank_plan.specs.declared.plan.Plan.{Plan}
-
--- element (i, j) replaced by `new` of itself
-abbrev pub replaced : (K : Kind) → View → ℕ → ℕ → (K .Elem → K .Elem) → List (K .Cell) → List (K .Cell)
-replaced K v i j new c = K .put c (index v i j) (new (elem K c v i j))
-
--- what a view shows, conjugated where asked
-abbrev pub reading : (K : Kind) → Bool → List (K .Cell) → View → Matrix K
-reading K conj s v i j = cond conj (K .conj (elem K s v i j)) (elem K s v i j)
 
 -- ---- her and her2: w and w' are the weighed elements i of x and y
 
@@ -31,16 +20,16 @@ addTwo K w w' x y j old = K .add (K .add old (K .mul w (K .conj (y j 0)))) (K .m
 module _ (K : Kind) (plan : Plan) (a b : List (K .Cell)) where
   -- the factors of the two products
   abbrev pub leftA : Matrix K
-  leftA = reading K (plan .«left_conj») a (plan .«left_a»)
+  leftA = elemConj K (plan .«left_conj») a (plan .«left_a»)
 
   abbrev pub rightB : Matrix K
-  rightB = reading K (plan .«right_conj») b (plan .«right_b»)
+  rightB = elemConj K (plan .«right_conj») b (plan .«right_b»)
 
   abbrev pub leftB : Matrix K
-  leftB = reading K (plan .«left_conj») b (plan .«left_b»)
+  leftB = elemConj K (plan .«left_conj») b (plan .«left_b»)
 
   abbrev pub rightA : Matrix K
-  rightA = reading K (plan .«right_conj») a (plan .«right_a»)
+  rightA = elemConj K (plan .«right_conj») a (plan .«right_a»)
 
   -- the two products at p, added one after the other, and the sum of the first n pairs
   abbrev pub pairAt : ℕ → ℕ → ℕ → K .Elem → K .Elem

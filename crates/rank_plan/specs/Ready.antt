@@ -15,18 +15,18 @@ pub record Sized (v : View) (len m n : ℕ) : Type 0 where
   pub cols : v .cols ≡ n
 
 -- a square one
-abbrev pub Square : View → ℕ → Type 0
-Square v len = Sized v len (v .rows) (v .rows)
+abbrev pub SquareWithin : View → ℕ → Type 0
+SquareWithin v len = Sized v len (v .rows) (v .rows)
 
 -- her and her2: x and y are columns as long as the square target
 pub record One (vx : View) (lx : ℕ) (va : View) (la : ℕ) : Type 0 where
   pub x : Sized vx lx (va .rows) 1
-  pub target : Square va la
+  pub target : SquareWithin va la
 
 pub record Two (vx : View) (lx : ℕ) (vy : View) (ly : ℕ) (va : View) (la : ℕ) : Type 0 where
   pub x : Sized vx lx (va .rows) 1
   pub y : Sized vy ly (va .rows) 1
-  pub target : Square va la
+  pub target : SquareWithin va la
 
 -- where row i of the named triangle is gone over: xi is at place own; of its n columns the first is `begin`, that element is at place t and its factor in x at place u
 pub record RowAt (uplo : UpLo) (vx va : View) (i own u t begin n : ℕ) : Type 0 where
@@ -46,7 +46,7 @@ pub record Factors (plan : Plan) (la lb : ℕ) : Type 0 where
 
 pub record Paired (plan : Plan) (la lb lc : ℕ) : Type 0 where
   pub factors : Factors plan la lb
-  pub target : Square (plan .target) lc
+  pub target : SquareWithin (plan .target) lc
 
 -- the same, with an element of the target
 pub record Entry (plan : Plan) (la lb i j : ℕ) : Type 0 where

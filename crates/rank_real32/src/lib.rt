@@ -7,14 +7,15 @@ ghost use Rattle.number.specs.Kind.{real32};
 ghost use Rattle.number.specs.Scaling.{scaleBy32};
 ghost use Rattle.view.specs.Place.{index};
 ghost use Rattle.view.specs.Triangle.{inTriangle};
-ghost use Rattle.slab.specs.Elem.{elem, lent, Shows};
-ghost use Rattle.slab.specs.Update.{row, update};
+ghost use Rattle.slab.specs.Elem.{elem, lent, Within};
+ghost use Rattle.slab.specs.Update.{replaced, updateRow, update};
+ghost use Rattle.slab.specs.Run.{elemConj};
 ghost use Rattle.blas.specs.Outcome.{Gives};
 ghost use Rattle.blas.specs.Her;
 ghost use Rattle.blas.specs.Her2;
 ghost use Rattle.blas.specs.Her2k;
 ghost use Rattle.blas.specs.Syr2k;
-ghost use Rattle.rank_plan.specs.Change.{replaced, reading, addOne, addTwo, pairAt, pairsAt, weighedAt, weighedsAt, syr2kChange, her2kChange};
+ghost use Rattle.rank_plan.specs.Change.{addOne, addTwo, pairAt, pairsAt, weighedAt, weighedsAt, syr2kChange, her2kChange};
 ghost use Rattle.rank_plan.specs.Ready.{One, Two, RowAt, Entry, Paired};
 use judge::check_her;
 use judge::check_her2;
@@ -50,8 +51,8 @@ use view::rows;
 
 // Element (i, j) of a matrix, conjugated where asked.
 fn read(conj: bool, s: &[f32], v: View, i: usize, j: usize) -> Real32
-    requires { ⌜ Shows v (real32 .count (now s)) i j ⌝ }
-    ensures { λ r. ⌜ r .0 ≡ reading real32 conj (now (s .entry)) v i j ⌝ }
+    requires { ⌜ Within v (real32 .count (now s)) i j ⌝ }
+    ensures { λ r. ⌜ r .0 ≡ elemConj real32 conj (now (s .entry)) v i j ⌝ }
 {
     let x = elem32(s, v, i, j);
     if conj { x.conj() } else { x }
@@ -69,7 +70,7 @@ fn her_entry(
     i: usize,
     j: usize,
 )
-    requires { ⌜ Shows vx (real32 .count (now x)) j 0 × Shows va (real32 .count (now a)) i j × (u ≡ index vx j 0) × (t ≡ index va i j) ⌝ }
+    requires { ⌜ Within vx (real32 .count (now x)) j 0 × Within va (real32 .count (now a)) i j × (u ≡ index vx j 0) × (t ≡ index va i j) ⌝ }
     ensures { λ _. ⌜ now (a .exit) ≡ replaced real32 va i j (addOne real32 (w .0) (elem real32 (now (x .entry)) vx) j) (now (a .entry)) ⌝ }
 {
     let old = get32(a, t);
@@ -94,7 +95,7 @@ fn her_row(
     one: usize,
 )
     requires { ⌜ One vx (real32 .count (now x)) va (real32 .count (now a)) × RowAt uplo vx va i own u t begin n × (one ≡ 1) ⌝ }
-    ensures { λ _. ⌜ now (a .exit) ≡ row real32 va (inTriangle uplo) (Her.herChange real32 alpha (elem real32 (now (x .entry)) vx)) i (va .cols) (now (a .entry)) ⌝ }
+    ensures { λ _. ⌜ now (a .exit) ≡ updateRow real32 va (inTriangle uplo) (Her.herChange real32 alpha (elem real32 (now (x .entry)) vx)) i (va .cols) (now (a .entry)) ⌝ }
 {
     let w = get32(x, own).scale_real(alpha);
     let along = col_step(va);
@@ -205,7 +206,7 @@ fn her2_entry(
     i: usize,
     j: usize,
 )
-    requires { ⌜ Shows vx (real32 .count (now x)) j 0 × Shows vy (real32 .count (now y)) j 0 × Shows va (real32 .count (now a)) i j × (u ≡ index vx j 0) × (z ≡ index vy j 0) × (t ≡ index va i j) ⌝ }
+    requires { ⌜ Within vx (real32 .count (now x)) j 0 × Within vy (real32 .count (now y)) j 0 × Within va (real32 .count (now a)) i j × (u ≡ index vx j 0) × (z ≡ index vy j 0) × (t ≡ index va i j) ⌝ }
     ensures { λ _. ⌜ now (a .exit) ≡ replaced real32 va i j (addTwo real32 (w .0) (w2 .0) (elem real32 (now (x .entry)) vx) (elem real32 (now (y .entry)) vy) j) (now (a .entry)) ⌝ }
 {
     let old = get32(a, t);
@@ -234,7 +235,7 @@ fn her2_row(
     n: usize,
 )
     requires { ⌜ Two vx (real32 .count (now x)) vy (real32 .count (now y)) va (real32 .count (now a)) × RowAt uplo vx va i ownx u t begin n × RowAt uplo vy va i owny z t begin n ⌝ }
-    ensures { λ _. ⌜ now (a .exit) ≡ row real32 va (inTriangle uplo) (Her2.her2Change real32 (alpha .0) (elem real32 (now (x .entry)) vx) (elem real32 (now (y .entry)) vy)) i (va .cols) (now (a .entry)) ⌝ }
+    ensures { λ _. ⌜ now (a .exit) ≡ updateRow real32 va (inTriangle uplo) (Her2.her2Change real32 (alpha .0) (elem real32 (now (x .entry)) vx) (elem real32 (now (y .entry)) vy)) i (va .cols) (now (a .entry)) ⌝ }
 {
     let w = alpha.mul(get32(x, ownx));
     let conjugate = alpha.conj();
@@ -429,7 +430,7 @@ fn syr2k_entry(
     i: usize,
     j: usize,
 )
-    requires { ⌜ Entry plan (real32 .count (now a)) (real32 .count (now b)) i j × Shows (plan .target) (real32 .count (now c)) i j ⌝ }
+    requires { ⌜ Entry plan (real32 .count (now a)) (real32 .count (now b)) i j × Within (plan .target) (real32 .count (now c)) i j ⌝ }
     ensures { λ _. ⌜ now (c .exit) ≡ replaced real32 (plan .target) i j (syr2kChange real32 plan (now (a .entry)) (now (b .entry)) (alpha .0) (scaleBy32 beta) i j) (now (c .entry)) ⌝ }
 {
     let k = place(plan.target, i, j);
@@ -441,7 +442,7 @@ fn syr2k_entry(
 // Row i of syr2k's target.
 fn syr2k_row(alpha: Real32, beta: Beta32, plan: Plan, a: &[f32], b: &[f32], c: &mut [f32], i: usize)
     requires { ⌜ Paired plan (real32 .count (now a)) (real32 .count (now b)) (real32 .count (now c)) × (i < plan .target .rows) ⌝ }
-    ensures { λ _. ⌜ now (c .exit) ≡ row real32 (plan .target) (inTriangle (plan .uplo)) (syr2kChange real32 plan (now (a .entry)) (now (b .entry)) (alpha .0) (scaleBy32 beta)) i (plan .target .cols) (now (c .entry)) ⌝ }
+    ensures { λ _. ⌜ now (c .exit) ≡ updateRow real32 (plan .target) (inTriangle (plan .uplo)) (syr2kChange real32 plan (now (a .entry)) (now (b .entry)) (alpha .0) (scaleBy32 beta)) i (plan .target .cols) (now (c .entry)) ⌝ }
 {
     let uplo = plan.uplo;
     let end = end_col(uplo, i, cols(plan.target));
@@ -476,7 +477,7 @@ fn her2k_entry(
     i: usize,
     j: usize,
 )
-    requires { ⌜ Entry plan (real32 .count (now a)) (real32 .count (now b)) i j × Shows (plan .target) (real32 .count (now c)) i j ⌝ }
+    requires { ⌜ Entry plan (real32 .count (now a)) (real32 .count (now b)) i j × Within (plan .target) (real32 .count (now c)) i j ⌝ }
     ensures { λ _. ⌜ now (c .exit) ≡ replaced real32 (plan .target) i j (her2kChange real32 plan (now (a .entry)) (now (b .entry)) (alpha .0) (scaleBy32 beta) i j) (now (c .entry)) ⌝ }
 {
     let k = place(plan.target, i, j);
@@ -488,7 +489,7 @@ fn her2k_entry(
 // Row i of her2k's target.
 fn her2k_row(alpha: Real32, beta: Beta32, plan: Plan, a: &[f32], b: &[f32], c: &mut [f32], i: usize)
     requires { ⌜ Paired plan (real32 .count (now a)) (real32 .count (now b)) (real32 .count (now c)) × (i < plan .target .rows) ⌝ }
-    ensures { λ _. ⌜ now (c .exit) ≡ row real32 (plan .target) (inTriangle (plan .uplo)) (her2kChange real32 plan (now (a .entry)) (now (b .entry)) (alpha .0) (scaleBy32 beta)) i (plan .target .cols) (now (c .entry)) ⌝ }
+    ensures { λ _. ⌜ now (c .exit) ≡ updateRow real32 (plan .target) (inTriangle (plan .uplo)) (her2kChange real32 plan (now (a .entry)) (now (b .entry)) (alpha .0) (scaleBy32 beta)) i (plan .target .cols) (now (c .entry)) ⌝ }
 {
     let uplo = plan.uplo;
     let end = end_col(uplo, i, cols(plan.target));

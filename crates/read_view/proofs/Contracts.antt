@@ -1,7 +1,7 @@
--- The contracts that the walks over a read view are about, with what differs between the functions left open: the result's type R, and the
--- definition f that gives the result. Each contract of the crate that a walk meets or cites is one of these, by computing.
---     Element R      parameters a slab, a view, r and c: find, element and the complex ones;  its result is f of them
---     Method R       parameters a read view, r and c: get, get_complex;  its result is f of the two that the struct holds, r and c
+-- The contracts that the walks over a read view are about, with what differs between the functions left open: the result's type R, what is seen
+-- of a result (`see`), and the definition f that gives it. Each contract of the crate that a walk meets or cites is one of these, by computing.
+--     Element R      parameters a slab, a view, r and c: find, element and the complex ones;  what is seen of its result is f of them
+--     Method R       parameters a read view, r and c: get, get_complex;  what is seen of its result is f of the two that the struct holds, r and c
 --     Size, SizeOf   parameter a view, and a read view: the view's rows and cols, and the struct's;  the result is f of the view
 use Prim.Native.Nat.{ℕ}
 use mathlib.Core.Path.{_≡_}
@@ -48,19 +48,19 @@ abbrev pub SizeOf : Ended
 SizeOf = record { signature = record { lifetimes = 1; outlives = []; params = plain B ∷ []; result = plain (λ κs. usize) }; kept = (yes, tt) }
 
 module _ {M : Type 1} (𝓤 : URA M) where
-  module _ (R : RattleType) (f : List Float → View → ℕ → ℕ → R .Denot) where
+  module _ (R : RattleType) {D : Type 0} (see : R .Denot → D) (f : List Float → View → ℕ → ℕ → D) where
     abbrev pub element-says : Clauses 𝓤 (Element R)
     element-says κs a = record {
       ghost = Unit {0};
       requires = λ g. emp 𝓤;
-      ensures = λ g r e. fact 𝓤 (r ≡ f (now (a .0)) (a .1 .0) (a .1 .1 .0) (a .1 .1 .1 .0));
+      ensures = λ g r e. fact 𝓤 (see r ≡ f (now (a .0)) (a .1 .0) (a .1 .1 .0) (a .1 .1 .1 .0));
     }
 
     abbrev pub method-says : Clauses 𝓤 (Method R)
     method-says κs a = record {
       ghost = Unit {0};
       requires = λ g. emp 𝓤;
-      ensures = λ g r e. fact 𝓤 (r ≡ f (now (a .0 .slab)) (a .0 .view) (a .1 .0) (a .1 .1 .0));
+      ensures = λ g r e. fact 𝓤 (see r ≡ f (now (a .0 .slab)) (a .0 .view) (a .1 .0) (a .1 .1 .0));
     }
 
   module _ (f : View → ℕ) where

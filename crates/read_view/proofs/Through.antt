@@ -58,7 +58,7 @@ through g τ = record {
   body = seq (call #new (copy (place 1 []) ∷ copy (place 2 []) ∷ []) (place 5 [])) (seq (call g (copy (place 5 []) ∷ copy (place 3 []) ∷ copy (place 4 []) ∷ []) (place 0 [])) return);
 }
 
-module _ (g : Name) (R : RattleType) (τ : Ty) (f : List Float → View → ℕ → ℕ → R .Denot) where
+module _ (g : Name) (R : RattleType) (τ : Ty) {D : Type 0} (see : R .Denot → D) (f : List Float → View → ℕ → ℕ → D) where
   abbrev stayed : Stays (Element R .signature .params) (Element R .kept)
   stayed = (stay-none-slice (0 ∷ []) tt (plain (λ _. f64)) yes, (stay-none (λ _. X.the-row) yes, (stay-none (λ _. usize) yes, (stay-none (λ _. usize) yes, tt))))
 
@@ -68,7 +68,7 @@ module _ (g : Name) (R : RattleType) (τ : Ty) (f : List Float → View → ℕ 
     New = tripleOf 𝓤 H A new.signature (new.spec 𝓤 H A mem run)
 
     abbrev Get : Contract 𝓤
-    Get = tripled 𝓤 H A (Method R) (method-says 𝓤 R f)
+    Get = tripled 𝓤 H A (Method R) (method-says 𝓤 R see f)
 
     module _ (κ : Lft) (q : Share) (s : RefT (List Float)) (w : View) (m n : ℕ) (fm : m < 2 ^ 64) (fn : n < 2 ^ 64) where
       abbrev v : Val
@@ -80,7 +80,7 @@ module _ (g : Name) (R : RattleType) (τ : Ty) (f : List Float → View → ℕ 
       abbrev at : Vals (Element R .signature) (κ, tt)
       at = (v ∷ [], (u₂ ∷ [], (vint w64 m ∷ [], (vint w64 n ∷ [], tt))))
 
-      abbrev found : R .Denot
+      abbrev found : D
       found = f (now s) w m n
 
       -- the struct's type as a local of a body has it
@@ -88,7 +88,7 @@ module _ (g : Name) (R : RattleType) (τ : Ty) (f : List Float → View → ℕ 
       αᵉ = record { mir = erased; lft = κ }
 
       abbrev Post : Val → SProp 𝓤
-      Post = walkOf 𝓤 H A (Element R) stayed (element-says 𝓤 R f) .post (((κ, tt), (q, tt), tt, (s, (w, (m, (n, tt)))), at), tt)
+      Post = walkOf 𝓤 H A (Element R) stayed (element-says 𝓤 R see f) .post (((κ, tt), (q, tt), tt, (s, (w, (m, (n, tt)))), at), tt)
 
       abbrev Own : Fml
       Own = ShrSlice (named 0) κ f64 .own s (v ∷ [])
@@ -129,13 +129,13 @@ module _ (g : Name) (R : RattleType) (τ : Ty) (f : List Float → View → ℕ 
           nothing ! $ owned ! usize (Is usize) (uint-makes 𝓤 H A W w64) n _ (refl, fn) $ fjoin ! $ owned ! usize (Is usize) (uint-makes 𝓤 H A W w64) m _ (refl, fm) $ fjoin ! $
           move ! (1 ∷ 0 ∷ []) $ fjoin ! $ move ! (1 ∷ 0 ∷ []) $ join ! $ frame ! $ done !
 
-      get-said : (d : ReadView) (r : R .Denot) → ent 𝓤 (ensured 𝓤 H A (Method R) (method-says 𝓤 R f) (κ, tt) (d, (m, (n, tt))) tt r) (fact 𝓤 (r ≡ f (now (d .slab)) (d .view) m n))
-      get-said d r = exE 𝓤 _ (λ ws. snd∗ 𝓤 (sem 𝓤 H A (lasts (Method R) (κ, tt) (d, (m, (n, tt))) ws)) (fact 𝓤 (r ≡ f (now (d .slab)) (d .view) m n)))
+      get-said : (d : ReadView) (r : R .Denot) → ent 𝓤 (ensured 𝓤 H A (Method R) (method-says 𝓤 R see f) (κ, tt) (d, (m, (n, tt))) tt r) (fact 𝓤 (see r ≡ f (now (d .slab)) (d .view) m n))
+      get-said d r = exE 𝓤 _ (λ ws. snd∗ 𝓤 (sem 𝓤 H A (lasts (Method R) (κ, tt) (d, (m, (n, tt))) ws)) (fact 𝓤 (see r ≡ f (now (d .slab)) (d .view) m n)))
 
-      exits : (r : R .Denot) (u : Val) → r ≡ found → ent 𝓤 (⋆ 𝓤 H A (‵ (R .own r (u ∷ [])) ∷ (‵ (flft κ q) ⊛ ‵ ftrue) ∷ ‵ Kept ∷ [])) (Post u)
+      exits : (r : R .Denot) (u : Val) → see r ≡ found → ent 𝓤 (⋆ 𝓤 H A (‵ (R .own r (u ∷ [])) ∷ (‵ (flft κ q) ⊛ ‵ ftrue) ∷ ‵ Kept ∷ [])) (Post u)
       exits r u e =
           qed W (‵ (R .own r (u ∷ [])) ∷ (‵ (flft κ q) ⊛ ‵ ftrue) ∷ ‵ Kept ∷ []) ∵
-          suffices ! _ (ends-at 𝓤 H A (Element R) stayed (element-says 𝓤 R f) W (((κ, tt), (q, tt), tt, (s, (w, (m, (n, tt)))), at), tt) u r (tt, (tt, (tt, (tt, tt)))) (tt, (tt, (tt, (tt, tt))))) $ says ! e $
+          suffices ! _ (ends-at 𝓤 H A (Element R) stayed (element-says 𝓤 R see f) W (((κ, tt), (q, tt), tt, (s, (w, (m, (n, tt)))), at), tt) u r (tt, (tt, (tt, (tt, tt)))) (tt, (tt, (tt, (tt, tt))))) $ says ! e $
           move ! (1 ∷ []) $ frame ! $ move ! (1 ∷ []) $ frame ! $ done !
 
       module _ (C : Calls 𝓤 H) (Λ : Loops 𝓤 H) (framed : FmC 𝓤 H (W .laws) C) (known-new : Triple 𝓤 (C #new) New) (known-get : Triple 𝓤 (C g) Get) where
@@ -154,8 +154,8 @@ module _ (g : Name) (R : RattleType) (τ : Ty) (f : List Float → View → ℕ 
             land ! (from ! (stop !)) (init ! 3 refl (LL.lawful (T.the-type αᵉ) (T′.the-laws αᵉ) 𝓤 H A W .typed d _ is .0)) $
             use2 W (raw (Get .pre (to-get d u))) (goes-get d u) $
             calls-at ! framed Get known-get (to-get d u) (and-then ! (load ! (from ! (stop !)) (look ! 2 refl)) (and-then ! (load ! (from ! (stop !)) (look ! 6 refl)) (and-then ! (load ! (from ! (stop !)) (look ! 4 refl)) (no-more !)))) (λ u′.
-            use1 W (later (some (λ (r : R .Denot). ((‵ (flft κ q) ⊛ ‵ ftrue) ⊛ ‵ (R .own r (u′ ∷ []))) ⊛ raw (ensured 𝓤 H A (Method R) (method-says 𝓤 R f) (κ, tt) (d, (m, (n, tt))) tt r)))) (id⊢ 𝓤 _) $ await ! tt $ pick ! (λ r.
-            split ! $ move ! (1 ∷ []) $ use1 W (raw (fact 𝓤 (r ≡ f (now (d .slab)) (d .view) m n))) (get-said d r) $ heard ! (r ≡ f (now (d .slab)) (d .view) m n) (λ e′. split ! $ move ! (1 ∷ []) $
+            use1 W (later (some (λ (r : R .Denot). ((‵ (flft κ q) ⊛ ‵ ftrue) ⊛ ‵ (R .own r (u′ ∷ []))) ⊛ raw (ensured 𝓤 H A (Method R) (method-says 𝓤 R see f) (κ, tt) (d, (m, (n, tt))) tt r)))) (id⊢ 𝓤 _) $ await ! tt $ pick ! (λ r.
+            split ! $ move ! (1 ∷ []) $ use1 W (raw (fact 𝓤 (see r ≡ f (now (d .slab)) (d .view) m n))) (get-said d r) $ heard ! (see r ≡ f (now (d .slab)) (d .view) m n) (λ e′. split ! $ move ! (1 ∷ []) $
             -- [the result; the token; what is kept; _5; …; _4; …; _3; …; _2; …; _1; …; room for _0; …]
             peeks ! R (Is R) (shows 𝓤 H A R) r (u′ ∷ []) (λ is′.
             land ! (from ! (stop !)) (init ! 13 refl (typed r u′ is′)) $
@@ -163,22 +163,22 @@ module _ (g : Name) (R : RattleType) (τ : Ty) (f : List Float → View → ℕ 
             move ! (13 ∷ 14 ∷ []) $ free1 ! $ move ! (11 ∷ 12 ∷ []) $ free1 ! $ move ! (9 ∷ 10 ∷ []) $ free1 ! $ move ! (7 ∷ 8 ∷ []) $ free1 ! $ move ! (5 ∷ 6 ∷ []) $ free1 ! $ move ! (3 ∷ 4 ∷ []) $ free1 ! $ free0 ! $
             by ! (exits r u′ (e′ ∙ (λ i. f (now (e .0 i)) (e .1 i) m n)))))))))))))))))
 
-    walks : (C : Calls 𝓤 H) (Λ : Loops 𝓤 H) → FmC 𝓤 H (W .laws) C → Triple 𝓤 (C #new) New → Triple 𝓤 (C g) Get → Walks 𝓤 H A (Element R) stayed (WpFn 𝓤 H C Λ (through g τ)) (element-says 𝓤 R f)
-    walks C Λ framed known-new known-get = walked 𝓤 H A (Element R) stayed (element-says 𝓤 R f) (WpFn 𝓤 H C Λ (through g τ))
+    walks : (C : Calls 𝓤 H) (Λ : Loops 𝓤 H) → FmC 𝓤 H (W .laws) C → Triple 𝓤 (C #new) New → Triple 𝓤 (C g) Get → Walks 𝓤 H A (Element R) stayed (WpFn 𝓤 H C Λ (through g τ)) (element-says 𝓤 R see f)
+    walks C Λ framed known-new known-get = walked 𝓤 H A (Element R) stayed (element-says 𝓤 R see f) (WpFn 𝓤 H C Λ (through g τ))
         (λ κs. (slice-vals, (LL.vals X.the-type X′.the-laws, (uint-vals w64, (uint-vals w64, tt)))))
         (λ κs. (shr-slice-tells (named 0) (κs .0) f64, (LL.tells X.the-type X′.the-laws, (uint-tells w64, (uint-tells w64, tt)))))
         (λ κs qs bounds a g are. via 𝓤 _ (fst∗ 𝓤 _ (emp 𝓤)) (walk (κs .0) (qs .0) (a .0) (a .1 .0) (a .1 .1 .0) (a .1 .1 .1 .0) (are .1 .1 .0 .1) (are .1 .1 .1 .0 .1) C Λ framed known-new known-get (are .0) (are .1 .0)))
 
     met : (𝓣 : Tables 𝓤 H) → Triple 𝓤 (𝓣 .C #new) New → Triple 𝓤 (𝓣 .C g) Get
-        → Meets 𝓤 H A (Element R .signature) (WpFn 𝓤 H (𝓣 .C) (𝓣 .Λ) (through g τ)) (closing 𝓤 H A (Element R) (element-says 𝓤 R f))
+        → Meets 𝓤 H A (Element R .signature) (WpFn 𝓤 H (𝓣 .C) (𝓣 .Λ) (through g τ)) (closing 𝓤 H A (Element R) (element-says 𝓤 R see f))
     met 𝓣 known-new known-get =
         walk-meets 𝓤 H A (Element R) stayed W
         (goes-none-slice 𝓤 H A W 1 (0 ∷ []) tt (plain (λ _. f64)) yes, (goes-none 𝓤 H A W 1 (λ _. X.the-row) yes (λ κs x f. refl), (goes-none 𝓤 H A W 1 (λ _. usize) yes (λ κs x f. refl), (goes-none 𝓤 H A W 1 (λ _. usize) yes (λ κs x f. refl), tt))))
-        (element-says 𝓤 R f) (WpFn 𝓤 H (𝓣 .C) (𝓣 .Λ) (through g τ)) (WpFn-mono 𝓤 H (W .laws) 𝓣 (through g τ)) (walks (𝓣 .C) (𝓣 .Λ) (fmOf 𝓤 H (W .laws) 𝓣) known-new known-get)
+        (element-says 𝓤 R see f) (WpFn 𝓤 H (𝓣 .C) (𝓣 .Λ) (through g τ)) (WpFn-mono 𝓤 H (W .laws) 𝓣 (through g τ)) (walks (𝓣 .C) (𝓣 .Λ) (fmOf 𝓤 H (W .laws) 𝓣) known-new known-get)
 
-    -- for a contract whose one clause says that the result is f of the slab, the view, r and c
+    -- for a contract whose one clause says that what `see` makes of the result is f of the slab, the view, r and c
     pub through-meets : (ensures : (κs : Lfts 1) (a : Args (Element R .signature) κs) → Res (Element R .signature) κs → AtExit (Element R) κs → SProp 𝓤)
-        → ((κs : Lfts 1) (a : Args (Element R .signature) κs) (r : Res (Element R .signature) κs) (e : AtExit (Element R) κs) → fact 𝓤 (r ≡ f (now (a .0)) (a .1 .0) (a .1 .1 .0) (a .1 .1 .1 .0)) ≡ ensures κs a r e)
+        → ((κs : Lfts 1) (a : Args (Element R .signature) κs) (r : Res (Element R .signature) κs) (e : AtExit (Element R) κs) → fact 𝓤 (see r ≡ f (now (a .0)) (a .1 .0) (a .1 .1 .0) (a .1 .1 .1 .0)) ≡ ensures κs a r e)
         → (𝓣 : Tables 𝓤 H) → Triple 𝓤 (𝓣 .C #new) New → Triple 𝓤 (𝓣 .C g) Get
         → Meets 𝓤 H A (Element R .signature) (WpFn 𝓤 H (𝓣 .C) (𝓣 .Λ) (through g τ)) (closing 𝓤 H A (Element R) (λ κs a. record { ghost = Unit {0}; requires = λ g. emp 𝓤; ensures = λ g. ensures κs a }))
     through-meets ensures says 𝓣 known-new known-get =

@@ -4,7 +4,7 @@
 ghost use mathlib.Core.Path.{_≡_};
 ghost use Rattle.number.specs.Kind.{real64, complex};
 ghost use Rattle.view.specs.Checks.{readCheck};
-ghost use Rattle.read_view.specs.Read.{readAnswer, readAt};
+ghost use Rattle.read_view.specs.Read.{readAnswer, readOutcome, foundOutcome, foundComplexOutcome};
 use judge::check_read;
 use number::Complex;
 use slab::get_complex;
@@ -64,7 +64,7 @@ fn answer(v: View, len: usize, r: usize, c: usize) -> Answer
 
 // The work: element (r, c) of a slab through a view.
 fn find(s: &[f64], v: View, r: usize, c: usize) -> Found
-    ensures { λ e. ⌜ e ≡ readAt real64 Found.Number Found.Refused (now (s .entry)) v r c ⌝ }
+    ensures { λ e. ⌜ foundOutcome e ≡ readOutcome real64 (now (s .entry)) v r c ⌝ }
 {
     let a = answer(v, s.len(), r, c);
     if passed(a) {
@@ -76,7 +76,7 @@ fn find(s: &[f64], v: View, r: usize, c: usize) -> Found
 }
 
 fn find_complex(s: &[f64], v: View, r: usize, c: usize) -> FoundComplex
-    ensures { λ e. ⌜ e ≡ readAt complex FoundComplex.Number FoundComplex.Refused (now (s .entry)) v r c ⌝ }
+    ensures { λ e. ⌜ foundComplexOutcome e ≡ readOutcome complex (now (s .entry)) v r c ⌝ }
 {
     let a = answer(v, s.len() / 2, r, c);
     if passed(a) {
@@ -108,13 +108,13 @@ impl<'a> ReadView<'a> {
 
     // Element (r, c).
     pub fn get(self, r: usize, c: usize) -> Found
-        ensures { λ e. ⌜ e ≡ readAt real64 Found.Number Found.Refused (now (self .entry .slab)) (self .entry .view) r c ⌝ }
+        ensures { λ e. ⌜ foundOutcome e ≡ readOutcome real64 (now (self .entry .slab)) (self .entry .view) r c ⌝ }
     {
         find(self.slab, self.view, r, c)
     }
 
     pub fn get_complex(self, r: usize, c: usize) -> FoundComplex
-        ensures { λ e. ⌜ e ≡ readAt complex FoundComplex.Number FoundComplex.Refused (now (self .entry .slab)) (self .entry .view) r c ⌝ }
+        ensures { λ e. ⌜ foundComplexOutcome e ≡ readOutcome complex (now (self .entry .slab)) (self .entry .view) r c ⌝ }
     {
         find_complex(self.slab, self.view, r, c)
     }
@@ -122,13 +122,13 @@ impl<'a> ReadView<'a> {
 
 // Element (r, c), for who has a slab and a view.
 pub fn element(slab: &[f64], v: View, r: usize, c: usize) -> Found
-    ensures { λ e. ⌜ e ≡ readAt real64 Found.Number Found.Refused (now (slab .entry)) v r c ⌝ }
+    ensures { λ e. ⌜ foundOutcome e ≡ readOutcome real64 (now (slab .entry)) v r c ⌝ }
 {
     ReadView::new(slab, v).get(r, c)
 }
 
 pub fn element_complex(slab: &[f64], v: View, r: usize, c: usize) -> FoundComplex
-    ensures { λ e. ⌜ e ≡ readAt complex FoundComplex.Number FoundComplex.Refused (now (slab .entry)) v r c ⌝ }
+    ensures { λ e. ⌜ foundComplexOutcome e ≡ readOutcome complex (now (slab .entry)) v r c ⌝ }
 {
     ReadView::new(slab, v).get_complex(r, c)
 }

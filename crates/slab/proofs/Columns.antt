@@ -13,7 +13,7 @@ use Rattle.view.specs.declared.UpLo.the-variants.{Upper, Lower}
 use Rattle.view.specs.Place.{index}
 use Rattle.view.specs.Triangle.{inTriangle, firstCol, endCol}
 use Rattle.slab.specs.Elem.{elem}
-use Rattle.slab.specs.Update.{Mask, Change, Columns, row}
+use Rattle.slab.specs.Update.{Mask, Change, Columns, updateRow}
 use Rattle.slab.proofs.UpdateLaws.{row-both, row-start}
 use Rattle.slab.proofs.LoopLaws.{row-skip, span}
 
@@ -27,7 +27,7 @@ module _ (K : Kind) (v : View) (mask : Mask) (u u′ : Change K) (i n a e : ℕ)
       go true t = sym (h .inside j (leb-true a j t) l)
       go false t = sym (h .before j (leb-false a j t))
 
-  span-is : (s : List (K .Cell)) → span K v u i a e s ≡ row K v mask u′ i e s
+  span-is : (s : List (K .Cell)) → span K v u i a e s ≡ updateRow K v mask u′ i e s
   span-is s =
       row-both K v (λ r k. leb a k) mask u u′ (λ p q. p ≡ q) i 0 e (omega arith)
       (λ j l g. (like j g, λ m p q d. ap (λ (t : List (K .Cell)). K .put t (index v i j) (u i j (elem K t v i j))) d ∙ ap (K .put q (index v i j)) (same j (elem K q v i j))))
@@ -35,14 +35,14 @@ module _ (K : Kind) (v : View) (mask : Mask) (u u′ : Change K) (i n a e : ℕ)
       s
       (row-start K v (λ r k. leb a k) u s i ∙ sym (row-start K v mask u′ s i))
 
-  pub columns-last : (j : ℕ) (s₀ s : List (K .Cell)) → n ≡ v .cols → j ≤ e → e ≤ j → s ≡ span K v u i a j s₀ → s ≡ row K v mask u′ i (v .cols) s₀
+  pub columns-last : (j : ℕ) (s₀ s : List (K .Cell)) → n ≡ v .cols → j ≤ e → e ≤ j → s ≡ span K v u i a j s₀ → s ≡ updateRow K v mask u′ i (v .cols) s₀
   columns-last j s₀ s en g l p =
       let q : j ≡ e = omega arith in
       p
       ∙ ap (λ (k : ℕ). span K v u i a k s₀) q
       ∙ span-is s₀
       ∙ sym (row-skip K v mask u′ i e n (h .within) (h .after) s₀)
-      ∙ ap (λ (k : ℕ). row K v mask u′ i k s₀) en
+      ∙ ap (λ (k : ℕ). updateRow K v mask u′ i k s₀) en
 
 -- ---- the columns in the named triangle
 

@@ -9,24 +9,24 @@ use lib.Ieee.{Float, Format}
 use Rattle.number.specs.Kind.{Kind, real}
 use Rattle.view.specs.declared.View.{View}
 use Rattle.slab.specs.Elem.{elem}
-use Rattle.slab.specs.Run.{plain, more}
+use Rattle.slab.specs.Run.{elemConj, plusTerms}
 
 module _ (K : Kind) (f : ℕ → K .Elem) where
-  pub more-start : (x : K .Elem) (from : ℕ) → x ≡ more K x f from 0
-  unfolding more
-  more-start x from = refl
+  pub plus-start : (x : K .Elem) (from : ℕ) → x ≡ plusTerms K x f from 0
+  unfolding plusTerms
+  plus-start x from = refl
 
-  pub more-next : (x : K .Elem) (from k : ℕ) (y z w : K .Elem) → y ≡ more K x f from k → z ≡ f (from + k) → w ≡ K .add y z → w ≡ more K x f from (k + 1)
-  unfolding more
-  more-next x from k y z w h g e = rw add-one (e ∙ (λ i. K .add (h i) (g i)))
+  pub plus-next : (x : K .Elem) (from k : ℕ) (y z w : K .Elem) → y ≡ plusTerms K x f from k → z ≡ f (from + k) → w ≡ K .add y z → w ≡ plusTerms K x f from (k + 1)
+  unfolding plusTerms
+  plus-next x from k y z w h g e = rw add-one (e ∙ (λ i. K .add (h i) (g i)))
 
   -- a loop that is left at k has added n terms
-  pub more-end : (x y : K .Elem) (from k n : ℕ) → k ≤ n → n ≤ k → y ≡ more K x f from k → y ≡ more K x f from n
-  more-end x y from k n h g e =
+  pub plus-end : (x y : K .Elem) (from k n : ℕ) → k ≤ n → n ≤ k → y ≡ plusTerms K x f from k → y ≡ plusTerms K x f from n
+  plus-end x y from k n h g e =
       let q : k ≡ n = omega arith in
-      subst (λ (m : ℕ). y ≡ more K x f from m) q e
+      subst (λ (m : ℕ). y ≡ plusTerms K x f from m) q e
 
 -- a real number is its own conjugate
-pub plain-real : (f : Format) (c : Bool) (s : List Float) (v : View) (i j : ℕ) → elem (real f) s v i j ≡ plain (real f) c s v i j
-plain-real f true s v i j = refl
-plain-real f false s v i j = refl
+pub elem-conj-real : (f : Format) (c : Bool) (s : List Float) (v : View) (i j : ℕ) → elem (real f) s v i j ≡ elemConj (real f) c s v i j
+elem-conj-real f true s v i j = refl
+elem-conj-real f false s v i j = refl

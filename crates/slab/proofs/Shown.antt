@@ -5,9 +5,9 @@ use Rattle.view.specs.declared.View.{View}
 use Rattle.view.specs.Place.{index}
 use Rattle.view.specs.PlaceLaws.{fits→index-lt}
 use Rattle.view.specs.Steps.{Shown}
-use Rattle.slab.specs.Elem.{Shows}
+use Rattle.slab.specs.Elem.{Within}
 
-module _ (v : View) (len r c : ℕ) (h : Shows v len r c) where
+module _ (v : View) (len r c : ℕ) (h : Within v len r c) where
   pub shown : len ≤ 2 ^ 63 → Shown v r c
   shown g = record { len = len; len-le = g; accepted = h .fits; row = h .row; col = h .col }
 

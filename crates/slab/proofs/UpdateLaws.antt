@@ -15,22 +15,22 @@ use Rattle.number.specs.Laws.{SlabLaws, Held, SameSlab}
 use Rattle.view.specs.declared.View.{View}
 use Rattle.view.specs.Place.{index}
 use Rattle.slab.specs.Elem.{elem}
-use Rattle.slab.specs.Update.{Mask, Change, step, row, rows, update, before, first, prefix}
+use Rattle.slab.specs.Update.{Mask, Change, updateOne, updateRow, updateRows, update, before, first, prefix}
 use Rattle.slab.specs.Distinct.{Inside, Distinct}
 
 -- ---- the fold in steps, as loops go
 
 module _ (K : Kind) (v : View) (mask : Mask) (u : Change K) (s : List (K .Cell)) where
-  pub row-start : (i : ℕ) → row K v mask u i 0 s ≡ s
-  unfolding row
+  pub row-start : (i : ℕ) → updateRow K v mask u i 0 s ≡ s
+  unfolding updateRow
   row-start i = refl
 
-  pub row-step : (i j : ℕ) → row K v mask u i (j + 1) s ≡ step K v mask u i j (row K v mask u i j s)
-  unfolding row
+  pub row-step : (i j : ℕ) → updateRow K v mask u i (j + 1) s ≡ updateOne K v mask u i j (updateRow K v mask u i j s)
+  unfolding updateRow
   row-step i j = rw add-one
 
-  pub rows-step : (i : ℕ) → rows K v mask u (i + 1) s ≡ row K v mask u i (v .cols) (rows K v mask u i s)
-  unfolding rows
+  pub rows-step : (i : ℕ) → updateRows K v mask u (i + 1) s ≡ updateRow K v mask u i (v .cols) (updateRows K v mask u i s)
+  unfolding updateRows
   rows-step i = rw add-one
 
 -- ---- a relation of two slabs that each write keeps holds of two folds
@@ -54,8 +54,8 @@ module _ (K : Kind) (v : View) (mask mask' : Mask) (u u' : Change K) (R : List (
   Keeps i j =
       (mask i j ≡ mask' i j) × (mask i j ≡ true → (s t : List (K .Cell)) → R s t → R (written K v u i j s) (written K v u' i j t))
 
-  step-both : (i j : ℕ) → Keeps i j → (s t : List (K .Cell)) → R s t → R (step K v mask u i j s) (step K v mask' u' i j t)
-  unfolding step
+  step-both : (i j : ℕ) → Keeps i j → (s t : List (K .Cell)) → R s t → R (updateOne K v mask u i j s) (updateOne K v mask' u' i j t)
+  unfolding updateOne
   step-both i j h s t r = rw (sym (h .0)) (go (mask i j) refl)
     where
       go : (b : Bool) → mask i j ≡ b → R (cond b (written K v u i j s) s) (cond b (written K v u' i j t) t)
@@ -63,15 +63,15 @@ module _ (K : Kind) (v : View) (mask mask' : Mask) (u u' : Change K) (R : List (
       go false e = r
 
   pub row-both : (i a n : ℕ) → a ≤ n → ((j : ℕ) → a ≤ j → j < n → Keeps i j) → (s t : List (K .Cell)) →
-      R (row K v mask u i a s) (row K v mask' u' i a t) → R (row K v mask u i n s) (row K v mask' u' i n t)
-  unfolding row
-  row-both i a n h k s t r = climb (λ n. R (row K v mask u i n s) (row K v mask' u' i n t)) a n h (λ j p q. step-both i j (k j p q) _ _) r
+      R (updateRow K v mask u i a s) (updateRow K v mask' u' i a t) → R (updateRow K v mask u i n s) (updateRow K v mask' u' i n t)
+  unfolding updateRow
+  row-both i a n h k s t r = climb (λ n. R (updateRow K v mask u i n s) (updateRow K v mask' u' i n t)) a n h (λ j p q. step-both i j (k j p q) _ _) r
 
   pub rows-both : (a m : ℕ) → a ≤ m → ((i : ℕ) → a ≤ i → i < m → (j : ℕ) → j < v .cols → Keeps i j) → (s t : List (K .Cell)) →
-      R (rows K v mask u a s) (rows K v mask' u' a t) → R (rows K v mask u m s) (rows K v mask' u' m t)
-  unfolding rows row
+      R (updateRows K v mask u a s) (updateRows K v mask' u' a t) → R (updateRows K v mask u m s) (updateRows K v mask' u' m t)
+  unfolding updateRows updateRow
   rows-both a m h k s t r =
-      climb (λ m. R (rows K v mask u m s) (rows K v mask' u' m t)) a m h
+      climb (λ m. R (updateRows K v mask u m s) (updateRows K v mask' u' m t)) a m h
       (λ i p q. row-both i 0 (v .cols) (omega arith) (λ j _ l. k i p q j l) _ _)
       r
 
@@ -82,7 +82,7 @@ module _ (K : Kind) (v : View) (mask : Mask) (u : Change K) where
   pub update-like : (mask' : Mask) (u' : Change K) → ((i j : ℕ) → i < v .rows → j < v .cols → mask i j ≡ mask' i j) →
       ((i j : ℕ) → i < v .rows → j < v .cols → mask i j ≡ true → (x : K .Elem) → u i j x ≡ u' i j x) → (s : List (K .Cell)) →
       update K v mask u s ≡ update K v mask' u' s
-  unfolding rows
+  unfolding updateRows
   update-like mask' u' m e s =
       rows-both K v mask mask' u u' (λ s t. s ≡ t) 0 (v .rows) (omega arith)
       (λ i _ p j q. (m i j p q, λ a s t h. ap (written K v u i j) h ∙ ap (K .put t (index v i j)) (e i j p q a (elem K t v i j))))
@@ -98,38 +98,38 @@ module _ (K : Kind) (v : View) (mask : Mask) (u : Change K) where
 
   keep-row : (P : List (K .Cell) → Type 0) (i a n : ℕ) → a ≤ n →
       ((j : ℕ) → a ≤ j → j < n → mask i j ≡ true → (t : List (K .Cell)) → P t → P (written K v u i j t)) → (s : List (K .Cell)) →
-      P (row K v mask u i a s) → P (row K v mask u i n s)
+      P (updateRow K v mask u i a s) → P (updateRow K v mask u i n s)
   keep-row P i a n h k s p = row-both K v mask mask u u (λ s t. P s) i a n h (λ j l q. (refl, λ m s t. k j l q m s)) s s p
 
   keep-rows : (P : List (K .Cell) → Type 0) (a m : ℕ) → a ≤ m →
       ((i : ℕ) → a ≤ i → i < m → (j : ℕ) → j < v .cols → mask i j ≡ true → (t : List (K .Cell)) → P t → P (written K v u i j t)) →
-      (s : List (K .Cell)) → P (rows K v mask u a s) → P (rows K v mask u m s)
+      (s : List (K .Cell)) → P (updateRows K v mask u a s) → P (updateRows K v mask u m s)
   keep-rows P a m h k s p = rows-both K v mask mask u u (λ s t. P s) a m h (λ i l q j c. (refl, λ m s t. k i l q j c m s)) s s p
 
 -- ---- sizes
 
 module _ (K : Kind) (v : View) (mask : Mask) (u : Change K) (s : List (K .Cell)) (f : List (K .Cell) → ℕ)
     (h : (t : List (K .Cell)) (k : ℕ) (x : K .Elem) → f (K .put t k x) ≡ f t) where
-  size-row : (i n : ℕ) → f (row K v mask u i n s) ≡ f s
-  unfolding row
+  size-row : (i n : ℕ) → f (updateRow K v mask u i n s) ≡ f s
+  unfolding updateRow
   size-row i n = keep-row K v mask u (λ t. f t ≡ f s) i 0 n (omega arith) (λ j _ _ _ t e. h t _ _ ∙ e) s refl
 
-  size-rows : (m : ℕ) → f (rows K v mask u m s) ≡ f s
-  unfolding rows
+  size-rows : (m : ℕ) → f (updateRows K v mask u m s) ≡ f s
+  unfolding updateRows
   size-rows m = keep-rows K v mask u (λ t. f t ≡ f s) 0 m (omega arith) (λ i _ _ j _ _ t e. h t _ _ ∙ e) s refl
 
 module _ (K : Kind) (L : SlabLaws K) (v : View) (mask : Mask) (u : Change K) (s : List (K .Cell)) where
-  pub length-rows : (m : ℕ) → length (rows K v mask u m s) ≡ length s
+  pub length-rows : (m : ℕ) → length (updateRows K v mask u m s) ≡ length s
   length-rows = size-rows K v mask u s length (L .length-put)
 
   pub length-update : length (update K v mask u s) ≡ length s
   length-update = length-rows (v .rows)
 
-  pub count-rows : (m : ℕ) → K .count (rows K v mask u m s) ≡ K .count s
+  pub count-rows : (m : ℕ) → K .count (updateRows K v mask u m s) ≡ K .count s
   count-rows = size-rows K v mask u s (K .count) (L .count-put)
 
   pub count-prefix : (i j : ℕ) → K .count (prefix K v mask u i j s) ≡ K .count s
-  count-prefix i j = size-row K v mask u (rows K v mask u i s) (K .count) (L .count-put) i j ∙ count-rows i
+  count-prefix i j = size-row K v mask u (updateRows K v mask u i s) (K .count) (L .count-put) i j ∙ count-rows i
 
   pub count-update : K .count (update K v mask u s) ≡ K .count s
   count-update = count-rows (v .rows)
@@ -139,7 +139,7 @@ module _ (K : Kind) (L : SlabLaws K) (v : View) (mask : Mask) (u : Change K) (s 
   -- an element that no admitted shown element is on is as lent
   pub update-other : (k : ℕ) → ((i j : ℕ) → i < v .rows → j < v .cols → mask i j ≡ true → k ≡ index v i j → ⊥) →
       K .at (update K v mask u s) k ≡ K .at s k
-  unfolding rows
+  unfolding updateRows
   update-other k h =
       keep-rows K v mask u (λ t. K .at t k ≡ K .at s k) 0 (v .rows) (omega arith)
       (λ i _ p j q m t e. L .at-put-other t (index v i j) k _ (h i j p q m) ∙ e)
@@ -150,7 +150,7 @@ module _ (K : Kind) (L : SlabLaws K) (v : View) (mask : Mask) (u : Change K) (s 
   pub update-cell : (n : ℕ) (d : K .Cell) →
       ((i j : ℕ) → i < v .rows → j < v .cols → mask i j ≡ true → (n < K .width * index v i j) ⊎ (K .width * index v i j + K .width ≤ n)) →
       getD (update K v mask u s) n d ≡ getD s n d
-  unfolding rows
+  unfolding updateRows
   update-cell n d h =
       keep-rows K v mask u (λ t. getD t n d ≡ getD s n d) 0 (v .rows) (omega arith)
       (λ i _ p j q m t e. apart (index v i j) t _ (h i j p q m) ∙ e)
@@ -162,8 +162,8 @@ module _ (K : Kind) (L : SlabLaws K) (v : View) (mask : Mask) (u : Change K) (s 
       apart k t x (inr l) = L .cell-put-above t k n x d l
 
   at-step : (i j : ℕ) (t : List (K .Cell)) → index v i j < K .count t →
-      elem K (step K v mask u i j t) v i j ≡ cond (mask i j) (u i j (elem K t v i j)) (elem K t v i j)
-  unfolding step
+      elem K (updateOne K v mask u i j t) v i j ≡ cond (mask i j) (u i j (elem K t v i j)) (elem K t v i j)
+  unfolding updateOne
   at-step i j t h = go (mask i j)
     where
       go : (b : Bool) → elem K (cond b (written K v u i j t) t) v i j ≡ cond b (u i j (elem K t v i j)) (elem K t v i j)
@@ -173,14 +173,14 @@ module _ (K : Kind) (L : SlabLaws K) (v : View) (mask : Mask) (u : Change K) (s 
   -- each shown element becomes `u` of what it was, where it is admitted
   pub update-shown : Inside v (K .count s) → Distinct v → (i j : ℕ) → i < v .rows → j < v .cols →
       elem K (update K v mask u s) v i j ≡ cond (mask i j) (u i j (elem K s v i j)) (elem K s v i j)
-  unfolding rows row
+  unfolding updateRows updateRow
   update-shown w o i j p q =
       keep-rows K v mask u (λ t. elem K t v i j ≡ new) (suc i) (v .rows) p
       (λ r l l' c m _ t e. apart r c l' m (λ a b. omega arith) t ∙ e)
       s
       (keep-row K v mask u (λ t. elem K t v i j ≡ new) i (suc j) (v .cols) q
       (λ c l l' _ t e. apart i c p l' (λ a b. omega arith) t ∙ e)
-      (rows K v mask u i s)
+      (updateRows K v mask u i s)
       (at-step i j (prefix K v mask u i j s) (rw (count-prefix i j) (w .below i j p q))
       ∙ ap (λ x. cond (mask i j) (u i j x) x) old))
     where
@@ -196,7 +196,7 @@ module _ (K : Kind) (L : SlabLaws K) (v : View) (mask : Mask) (u : Change K) (s 
       old =
           keep-row K v mask u (λ t. elem K t v i j ≡ elem K s v i j) i 0 j (omega arith)
           (λ c l l' _ t e. apart i c p (omega arith) (λ a b. omega arith) t ∙ e)
-          (rows K v mask u i s)
+          (updateRows K v mask u i s)
           (keep-rows K v mask u (λ t. elem K t v i j ≡ elem K s v i j) 0 i (omega arith)
           (λ r l l' c m _ t e. apart r c (omega arith) m (λ a b. omega arith) t ∙ e)
           s
@@ -220,18 +220,18 @@ module _ (K : Kind) (v : View) (mask : Mask) (u : Change K) (s : List (K .Cell))
     (i j : ℕ) (p : i < v .rows) (q : j ≤ v .cols) where
   -- what is done before (i, j) is the update of the elements before (i, j) only
   pub prefix-is : prefix K v mask u i j s ≡ update K v (first i j mask) u s
-  unfolding rows row
+  unfolding updateRows updateRow
   prefix-is =
       keep-rows K v (first i j mask) u (λ t. prefix K v mask u i j s ≡ t) (suc i) (v .rows) p
       (λ r l _ c _ a t e. absurd (no r c (after-row r c i j l) a))
       s
       (keep-row K v (first i j mask) u (λ t. prefix K v mask u i j s ≡ t) i j (v .cols) q
       (λ c l _ a t e. absurd (no i c (after-col c i j l) a))
-      (rows K v (first i j mask) u i s)
+      (updateRows K v (first i j mask) u i s)
       (row-both K v mask (first i j mask) u u (λ s t. s ≡ t) i 0 j (omega arith)
       (λ c _ l. (like i c (before-col c i j l), λ _ s t. ap (written K v u i c)))
-      (rows K v mask u i s)
-      (rows K v (first i j mask) u i s)
+      (updateRows K v mask u i s)
+      (updateRows K v (first i j mask) u i s)
       (rows-both K v mask (first i j mask) u u (λ s t. s ≡ t) 0 i (omega arith)
       (λ r _ l c _. (like r c (before-row r c i j l), λ _ s t. ap (written K v u r c)))
       s
@@ -283,7 +283,7 @@ module _ (K : Kind) (L : SlabLaws K) (v : View) (mask : Mask) (u : Change K) (s 
 module _ (K : Kind) (L : SlabLaws K) (v : View) (mask : Mask) (u u' : Change K)
     (h : (i j : ℕ) → i < v .rows → j < v .cols → mask i j ≡ true → (x y : K .Elem) → Same K x y → Same K (u i j x) (u' i j y)) where
   pub update-same : (s t : List (K .Cell)) → SameSlab K s t → SameSlab K (update K v mask u s) (update K v mask u' t)
-  unfolding rows
+  unfolding updateRows
   update-same s t e =
       rows-both K v mask mask u u' (SameSlab K) 0 (v .rows) (omega arith)
       (λ i _ p j q. (refl, λ m s t e. L .put-same (index v i j) e (h i j p q m _ _ (L .at-same (index v i j) e))))
@@ -297,7 +297,7 @@ module _ (K : Kind) (L : SlabLaws K) (v : View) (mask : Mask) (u u' : Change K)
 module _ (K : Kind) (L : SlabLaws K) (v : View) (mask : Mask) (u : Change K) where
   pub update-held : ((i j : ℕ) → i < v .rows → j < v .cols → mask i j ≡ true → (x : K .Elem) → Holds K x → Holds K (u i j x)) →
       (s : List (K .Cell)) → Held K s → Held K (update K v mask u s)
-  unfolding rows
+  unfolding updateRows
   update-held h s e =
       keep-rows K v mask u (Held K) 0 (v .rows) (omega arith)
       (λ i _ p j q m t e. L .put-holds t (index v i j) _ e (h i j p q m _ (L .at-holds t (index v i j) e)))

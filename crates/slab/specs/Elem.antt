@@ -19,7 +19,7 @@ abbrev pub elem : (K : Kind) → List (K .Cell) → View → ℕ → ℕ → K .
 elem K s v r c = K .at s (index v r c)
 
 -- element (r, c) is inside a slab of len elements
-pub record Shows (v : View) (len r c : ℕ) : Type 0 where
+pub record Within (v : View) (len r c : ℕ) : Type 0 where
   pub fits : Accepted v len
   pub row : r < v .rows
   pub col : c < v .cols

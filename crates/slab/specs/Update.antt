@@ -21,23 +21,27 @@ everywhere i j = true
 abbrev pub Change : Kind → Type 0
 Change K = ℕ → ℕ → K .Elem → K .Elem
 
--- element (i, j)
-unfoldable pub step : (K : Kind) → View → Mask → Change K → ℕ → ℕ → List (K .Cell) → List (K .Cell)
-step K v mask u i j s = cond (mask i j) (K .put s (index v i j) (u i j (elem K s v i j))) s
+-- element (i, j) becomes `new` of itself
+abbrev pub replaced : (K : Kind) → View → ℕ → ℕ → (K .Elem → K .Elem) → List (K .Cell) → List (K .Cell)
+replaced K v i j new s = K .put s (index v i j) (new (elem K s v i j))
+
+-- element (i, j), where the mask admits it
+unfoldable pub updateOne : (K : Kind) → View → Mask → Change K → ℕ → ℕ → List (K .Cell) → List (K .Cell)
+updateOne K v mask u i j s = cond (mask i j) (replaced K v i j (u i j) s) s
 
 -- the first n elements of row i
-unfoldable pub row : (K : Kind) → View → Mask → Change K → ℕ → ℕ → List (K .Cell) → List (K .Cell)
-row K v mask u i zero s = s
-row K v mask u i (suc j) s = step K v mask u i j (row K v mask u i j s)
+unfoldable pub updateRow : (K : Kind) → View → Mask → Change K → ℕ → ℕ → List (K .Cell) → List (K .Cell)
+updateRow K v mask u i zero s = s
+updateRow K v mask u i (suc j) s = updateOne K v mask u i j (updateRow K v mask u i j s)
 
 -- the first m rows
-unfoldable pub rows : (K : Kind) → View → Mask → Change K → ℕ → List (K .Cell) → List (K .Cell)
-rows K v mask u zero s = s
-rows K v mask u (suc i) s = row K v mask u i (v .cols) (rows K v mask u i s)
+unfoldable pub updateRows : (K : Kind) → View → Mask → Change K → ℕ → List (K .Cell) → List (K .Cell)
+updateRows K v mask u zero s = s
+updateRows K v mask u (suc i) s = updateRow K v mask u i (v .cols) (updateRows K v mask u i s)
 
 -- every element
 abbrev pub update : (K : Kind) → View → Mask → Change K → List (K .Cell) → List (K .Cell)
-update K v mask u s = rows K v mask u (v .rows) s
+update K v mask u s = updateRows K v mask u (v .rows) s
 
 -- ---- the fold on its way
 
@@ -51,7 +55,7 @@ first i j mask r c = before r c i j && mask r c
 
 -- the elements before (i, j) done, and no other
 abbrev pub prefix : (K : Kind) → View → Mask → Change K → ℕ → ℕ → List (K .Cell) → List (K .Cell)
-prefix K v mask u i j s = row K v mask u i j (rows K v mask u i s)
+prefix K v mask u i j s = updateRow K v mask u i j (updateRows K v mask u i s)
 
 -- ---- the columns of a row that are written
 

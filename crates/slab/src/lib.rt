@@ -3,7 +3,7 @@
 ghost use mathlib.Core.Path.{_≡_};
 ghost use Prim.Native.Nat.{_<_};
 ghost use Rattle.number.specs.Kind.{real64, real32, complex};
-ghost use Rattle.slab.specs.Elem.{elem, Shows};
+ghost use Rattle.slab.specs.Elem.{elem, Within};
 use number::Complex;
 use number::Real32;
 use number::Real64;
@@ -37,21 +37,21 @@ pub fn get_complex(s: &[f64], k: usize) -> Complex
 
 // Element (r, c) of a view.
 pub fn elem64(s: &[f64], v: View, r: usize, c: usize) -> Real64
-    requires { ⌜ Shows v (real64 .count (now s)) r c ⌝ }
+    requires { ⌜ Within v (real64 .count (now s)) r c ⌝ }
     ensures { λ x. ⌜ x .0 ≡ elem real64 (now (s .entry)) v r c ⌝ }
 {
     get64(s, place(v, r, c))
 }
 
 pub fn elem32(s: &[f32], v: View, r: usize, c: usize) -> Real32
-    requires { ⌜ Shows v (real32 .count (now s)) r c ⌝ }
+    requires { ⌜ Within v (real32 .count (now s)) r c ⌝ }
     ensures { λ x. ⌜ x .0 ≡ elem real32 (now (s .entry)) v r c ⌝ }
 {
     get32(s, place(v, r, c))
 }
 
 pub fn elem_complex(s: &[f64], v: View, r: usize, c: usize) -> Complex
-    requires { ⌜ Shows v (complex .count (now s)) r c ⌝ }
+    requires { ⌜ Within v (complex .count (now s)) r c ⌝ }
     ensures { λ x. ⌜ x ≡ elem complex (now (s .entry)) v r c ⌝ }
 {
     get_complex(s, place(v, r, c))

@@ -23,7 +23,7 @@ use Rattle.blas.specs.Triangular.{opUpper, inOp}
 use Rattle.blas.specs.Substitution.{brings, lastFirst}
 use Rattle.theorems.specs.Agreement.{triangle}
 use Rattle.theorems.specs.TriangularAgreement.{named}
-use Rattle.theorems.proofs.AgreeReadings.{Shows, plain, conjugated, same-shown, shows-same, shows-holds, shows-finite}
+use Rattle.theorems.proofs.AgreeReadings.{Reveals, plain, conjugated, same-shown, shows-same, shows-holds, shows-finite}
 
 -- ---- what is asked of a matrix, and of two
 
@@ -78,7 +78,7 @@ rowIn Right ConjTrans q p = q
 abbrev pub colIn : Side → Trans → ℕ → ℕ → ℕ
 colIn side t q p = rowIn side t p q
 
-pub coefficient-shows : (K : Kind) (side : Side) (t : Trans) (q p : ℕ) → Shows K (coefficient K side t) q p (rowIn side t q p) (colIn side t q p)
+pub coefficient-shows : (K : Kind) (side : Side) (t : Trans) (q p : ℕ) → Reveals K (coefficient K side t) q p (rowIn side t q p) (colIn side t q p)
 coefficient-shows K Left NoTrans q p = plain (λ a. refl)
 coefficient-shows K Left Transposed q p = plain (λ a. refl)
 coefficient-shows K Left ConjTrans q p = conjugated (λ a. refl)

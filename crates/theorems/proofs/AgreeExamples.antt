@@ -26,7 +26,7 @@ use Rattle.blas.specs.Symm.{symm}
 use Rattle.blas.specs.Trsv.{trsv}
 use Rattle.theorems.specs.Agreement.{Alike, Others, run, triangle, wholeMatrix, General, Square, Coefficient}
 use Rattle.theorems.specs.TriangularAgreement.{named, Single, runPlain}
-use Rattle.theorems.proofs.AgreeKinds.{real64-sees, real64-triangles}
+use Rattle.theorems.proofs.AgreeKinds.{real64-products-see, real64-triangles-see}
 
 -- an odd number as its format writes it
 abbrev odd : ℕ → Float
@@ -99,7 +99,7 @@ byColumns-coefficient = record {
 pub above-unseen : Alike real64 (Others real64) (run real64 (symm real64 Left Lower)) byRows byColumns
 unfolding byRows byColumns
 above-unseen =
-    real64-sees .symm-sees Left Lower byRows byColumns (record { rows = refl; cols = refl }) byRows-coefficient byColumns-coefficient .1
+    real64-products-see .symm-sees Left Lower byRows byColumns (record { rows = refl; cols = refl }) byRows-coefficient byColumns-coefficient .1
     (record { same = λ i j n. entry i j (n .row) (n .col) (n .named) .same })
 
 -- ---- 1 by 1 matrices of a finite number
@@ -131,7 +131,7 @@ single-coefficient x h f = record {
 pub zeros-alike : Alike real64 (Others real64) (run real64 (gemv real64 NoTrans)) (single (fin false 0 (pos 0))) (single (fin true 0 (pos 0)))
 unfolding single fits finiteFloat eq
 zeros-alike =
-    real64-sees .gemv-sees NoTrans (single (fin false 0 (pos 0))) (single (fin true 0 (pos 0))) (record { rows = refl; cols = refl })
+    real64-products-see .gemv-sees NoTrans (single (fin false 0 (pos 0))) (single (fin true 0 (pos 0))) (record { rows = refl; cols = refl })
     (single-coefficient (fin false 0 (pos 0)) refl (record { finite = tt }))
     (single-coefficient (fin true 0 (pos 0)) refl (record { finite = tt }))
     .1
@@ -146,7 +146,7 @@ pub one-is-not-three : Alike real64 (Others real64) (run real64 (gemv real64 NoT
 unfolding single fits finiteFloat eq isNan
 one-is-not-three h =
     let g =
-    real64-sees .gemv-sees NoTrans (single (odd 1)) (single (odd 3)) (record { rows = refl; cols = refl })
+    real64-products-see .gemv-sees NoTrans (single (odd 1)) (single (odd 3)) (record { rows = refl; cols = refl })
     (single-coefficient (odd 1) refl (record { finite = tt }))
     (single-coefficient (odd 3) refl (record { finite = tt }))
     .0
@@ -183,7 +183,7 @@ below-coefficient x z h k f = record {
 pub diagonal-unseen : Alike real64 (Single real64) (runPlain real64 (trsv real64 Lower NoTrans Unit)) (below (odd 3) nan) (below (odd 3) (odd 99))
 unfolding below fits finiteFloat eq isNan
 diagonal-unseen =
-    real64-triangles .trsv-sees Lower NoTrans (below (odd 3) nan) (below (odd 3) (odd 99)) (record { rows = refl; cols = refl })
+    real64-triangles-see .trsv-sees Lower NoTrans (below (odd 3) nan) (below (odd 3) (odd 99)) (record { rows = refl; cols = refl })
     (below-coefficient (odd 3) nan refl refl (record { finite = tt }))
     (below-coefficient (odd 3) (odd 99) refl refl (record { finite = tt }))
     .1
@@ -198,7 +198,7 @@ pub below-seen : Alike real64 (Single real64) (runPlain real64 (trsv real64 Lowe
 unfolding below fits finiteFloat eq isNan
 below-seen h =
     let g =
-    real64-triangles .trsv-sees Lower NoTrans (below (odd 1) nan) (below (odd 3) nan) (record { rows = refl; cols = refl })
+    real64-triangles-see .trsv-sees Lower NoTrans (below (odd 1) nan) (below (odd 3) nan) (record { rows = refl; cols = refl })
     (below-coefficient (odd 1) nan refl refl (record { finite = tt }))
     (below-coefficient (odd 3) nan refl refl (record { finite = tt }))
     .0

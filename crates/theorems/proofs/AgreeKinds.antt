@@ -1,12 +1,13 @@
 -- What the products and the triangular routines can see of A, for f64, f32 and complex numbers.
-use Prim.Native.Nat.{ℕ, _+_, _*_, _/_, _<_}
+use Prim.Native.Nat.{ℕ, _+_, _*_, _/_, _^_, _≤_, _<_}
 use mathlib.Core.Path.{_≡_, ap, _∙_}
 use native.Mathlib.Omega.{arith}
 use lib.Dec.{T}
 use lib.Ieee.{Float, Format, binary32, binary64, nan, fits}
 use lib.ListN.{length, getD, replicate, length-replicate, getD-replicate}
-use Rattle.number.specs.Kind.{Kind, zeroFloat, real, real64, real32, complex}
+use Rattle.number.specs.Kind.{Kind, zeroFloat, bytesOf, real, real64, real32, complex}
 use Rattle.number.specs.Laws.{Laws}
+use Rattle.view.specs.Refusals.{limit}
 use Rattle.number.proofs.Instances.{real64-laws, real32-laws, complex-laws}
 use Rattle.theorems.specs.Agreement.{ProductsSee}
 use Rattle.theorems.specs.TriangularAgreement.{TrianglesSee}
@@ -20,13 +21,17 @@ use Rattle.theorems.proofs.AgreeTriangularSolves.{trsv-sees, trsm-sees}
 cells-held : (f : Format) → Laws (real f) → (n i : ℕ) (d : Float) → i < length (replicate n zeroFloat) → T (fits f (getD (replicate n zeroFloat) i d))
 cells-held f L n i d h = rw (getD-replicate n i zeroFloat d (rw (length-replicate n zeroFloat) at h)) (L .zero-holds .holds)
 
+few-bytes : (f : Format) (n m : ℕ) → n ≤ limit → m ≡ n → bytesOf f * m < 2 ^ 63
+few-bytes binary32 n m h e = omega arith
+few-bytes binary64 n m h e = omega arith
+
 real-zeros : (f : Format) → Laws (real f) → Zeros (real f)
 real-zeros f L = record {
   slab = λ n. replicate n zeroFloat;
   count = λ n. length-replicate n zeroFloat;
   zero = λ n k h. getD-replicate n k zeroFloat nan h;
   held = λ n. record { cell = cells-held f L n };
-  size = λ n h. omega (arith, length-replicate n zeroFloat);
+  size = λ n h. few-bytes f n _ h (length-replicate n zeroFloat);
 }
 
 complex-zeros : Zeros complex
@@ -46,14 +51,14 @@ complex-zeros = record {
 
 -- ---- the theorems
 
-pub real64-sees : ProductsSee real64
-real64-sees = products-see real64 real64-laws (real-zeros binary64 real64-laws)
+pub real64-products-see : ProductsSee real64
+real64-products-see = products-see real64 real64-laws (real-zeros binary64 real64-laws)
 
-pub real32-sees : ProductsSee real32
-real32-sees = products-see real32 real32-laws (real-zeros binary32 real32-laws)
+pub real32-products-see : ProductsSee real32
+real32-products-see = products-see real32 real32-laws (real-zeros binary32 real32-laws)
 
-pub complex-sees : ProductsSee complex
-complex-sees = products-see complex complex-laws complex-zeros
+pub complex-products-see : ProductsSee complex
+complex-products-see = products-see complex complex-laws complex-zeros
 
 triangles-see : (K : Kind) → Laws K → Zeros K → TrianglesSee K
 triangles-see K L Z = record {
@@ -63,11 +68,11 @@ triangles-see K L Z = record {
   trsm-sees = λ side uplo trans. trsm-sees K L Z uplo trans side;
 }
 
-pub real64-triangles : TrianglesSee real64
-real64-triangles = triangles-see real64 real64-laws (real-zeros binary64 real64-laws)
+pub real64-triangles-see : TrianglesSee real64
+real64-triangles-see = triangles-see real64 real64-laws (real-zeros binary64 real64-laws)
 
-pub real32-triangles : TrianglesSee real32
-real32-triangles = triangles-see real32 real32-laws (real-zeros binary32 real32-laws)
+pub real32-triangles-see : TrianglesSee real32
+real32-triangles-see = triangles-see real32 real32-laws (real-zeros binary32 real32-laws)
 
-pub complex-triangles : TrianglesSee complex
-complex-triangles = triangles-see complex complex-laws complex-zeros
+pub complex-triangles-see : TrianglesSee complex
+complex-triangles-see = triangles-see complex complex-laws complex-zeros

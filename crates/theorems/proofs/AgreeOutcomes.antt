@@ -74,14 +74,14 @@ judge-same v v' n n' rest shapes shapes' target l l' o o' e = rw (l, l', o, o', 
 abbrev pub worked : (K : Kind) → List (K .Cell) → Outcome K
 worked K work = record { answer = answerNumber Done; slab = work }
 
-module _ (K : Kind) (lent : List (K .Cell)) where
+module _ (K : Kind) (entry : List (K .Cell)) where
   -- refused alike, or the work with the same outcome
-  pub attempt-same : (work work' : Outcome K) (check check' : Answer) → check ≡ check' → SameSlab K lent lent →
-      (check ≡ Done → SameOutcome K work work') → SameOutcome K (attempt K check work lent) (attempt K check' work' lent)
+  pub attempt-same : (work work' : Outcome K) (check check' : Answer) → check ≡ check' → SameSlab K entry entry →
+      (check ≡ Done → SameOutcome K work work') → SameOutcome K (attempt K check work entry) (attempt K check' work' entry)
   attempt-same work work' check check' e r h =
-      subst (λ (c : Answer). SameOutcome K (attempt K check work lent) (attempt K c work' lent)) e (at check h)
+      subst (λ (c : Answer). SameOutcome K (attempt K check work entry) (attempt K c work' entry)) e (at check h)
     where
-      at : (c : Answer) → (c ≡ Done → SameOutcome K work work') → SameOutcome K (attempt K c work lent) (attempt K c work' lent)
+      at : (c : Answer) → (c ≡ Done → SameOutcome K work work') → SameOutcome K (attempt K c work entry) (attempt K c work' entry)
       at Done h = h refl
       at TooLarge h = record { answer = refl; slab = r }
       at OutOfBounds h = record { answer = refl; slab = r }
@@ -89,7 +89,7 @@ module _ (K : Kind) (lent : List (K .Cell)) where
       at Overlap h = record { answer = refl; slab = r }
       at Singular h = record { answer = refl; slab = r }
 
-  pub outcome-attempt : (work : List (K .Cell)) (check : Answer) → outcome K check work lent ≡ attempt K check (worked K work) lent
+  pub outcome-attempt : (work : List (K .Cell)) (check : Answer) → outcome K check work entry ≡ attempt K check (worked K work) entry
   outcome-attempt work Done = refl
   outcome-attempt work TooLarge = refl
   outcome-attempt work OutOfBounds = refl
@@ -98,8 +98,8 @@ module _ (K : Kind) (lent : List (K .Cell)) where
   outcome-attempt work Singular = refl
 
   -- refused alike, or done with the same numbers
-  pub outcome-same : (work work' : List (K .Cell)) (check check' : Answer) → check ≡ check' → SameSlab K lent lent →
-      (check ≡ Done → SameSlab K work work') → SameOutcome K (outcome K check work lent) (outcome K check' work' lent)
+  pub outcome-same : (work work' : List (K .Cell)) (check check' : Answer) → check ≡ check' → SameSlab K entry entry →
+      (check ≡ Done → SameSlab K work work') → SameOutcome K (outcome K check work entry) (outcome K check' work' entry)
   outcome-same work work' check check' e r h =
       rw (outcome-attempt work check, outcome-attempt work' check')
       (attempt-same (worked K work) (worked K work') check check' e r (λ d. record { answer = refl; slab = h d }))

@@ -17,6 +17,7 @@ use Rattle.slab.specs.Elem.{Lent, lent}
 use Rattle.slab.specs.Update.{Mask}
 use Rattle.blas.specs.Matrix.{Matrix, matrix, dot}
 use Rattle.blas.specs.Outcome.{outcome}
+use Rattle.blas.specs.Solves.{linesOf}
 use Rattle.blas.proofs.Elements.{fits-inside, apart-distinct}
 use Rattle.theorems.specs.Agreement.{Product, run, Others, Alike, SameShape, Agree, Coefficient, Sees}
 use Rattle.theorems.proofs.AgreeSums.{Picks, sum-cong, pick-left, pick-right}
@@ -69,12 +70,7 @@ record Aim (side : Side) (t : View) (n r c : ℕ) : Type 0 where
   row : termRow side i j q ≡ r
   col : termCol side i j q ≡ c
 
--- the target's columns on the left, its rows on the right
-abbrev pub breadth : Side → View → ℕ
-breadth Left t = t .cols
-breadth Right t = t .rows
-
-aim : (side : Side) (t : View) (n r c : ℕ) → 0 < breadth side t → r < readRows side t n → c < readCols side t n → Aim side t n r c
+aim : (side : Side) (t : View) (n r c : ℕ) → 0 < linesOf side t → r < readRows side t n → c < readCols side t n → Aim side t n r c
 aim Left t n r c h p q = record { i = r; j = 0; q = c; i-lt = p; j-lt = h; q-lt = q; row = refl; col = refl }
 aim Right t n r c h p q = record { i = 0; j = c; q = r; i-lt = h; j-lt = q; q-lt = p; row = refl; col = refl }
 
@@ -130,7 +126,7 @@ pub record Probe (K : Kind) (f : Routine K) (v : View) : Type 0 where
   pub shapes : f .shapes v rhs target ≡ true
   pub written-accepted : Accepted (f .written target) m
   pub written-apart : overlaps (f .written target) ≡ false
-  pub broad : 0 < breadth (f .side) (f .written target)
+  pub broad : 0 < linesOf (f .side) (f .written target)
   -- where the right-hand side's slab has a unit vector, the other factor shows it
   pub picks : (e : List (K .Cell)) (q : ℕ) → UnitIn K e (f .terms v target) q → (i j : ℕ) → i < f .written target .rows →
       j < f .written target .cols → Picks K (f .terms v target) q (beside K (f .side) (f .other (lent K e rhs)) i j)

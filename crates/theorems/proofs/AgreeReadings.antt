@@ -19,16 +19,16 @@ use Rattle.view.specs.Triangle.{inTriangle}
 use Rattle.theorems.specs.Agreement.{Named, wholeMatrix, triangle}
 
 -- element (i, p) of the reading is element (r, c), or its conjugate
-pub data Shows (K : Kind) (reading : Matrix K → Matrix K) (i p r c : ℕ) : Type 0 where
-  plain : ((a : Matrix K) → reading a i p ≡ a r c) → Shows K reading i p r c
-  conjugated : ((a : Matrix K) → reading a i p ≡ K .conj (a r c)) → Shows K reading i p r c
+pub data Reveals (K : Kind) (reading : Matrix K → Matrix K) (i p r c : ℕ) : Type 0 where
+  plain : ((a : Matrix K) → reading a i p ≡ a r c) → Reveals K reading i p r c
+  conjugated : ((a : Matrix K) → reading a i p ≡ K .conj (a r c)) → Reveals K reading i p r c
 
 -- the named element that (i, p) of the reading shows
 pub record Source (K : Kind) (names : Mask) (v : View) (reading : Matrix K → Matrix K) (i p : ℕ) : Type 0 where
   pub row : ℕ
   pub col : ℕ
   pub named : Named names v row col
-  pub shows : Shows K reading i p row col
+  pub shows : Reveals K reading i p row col
 
 -- where the reading, m by n, shows (r, c)
 pub record Spot (K : Kind) (m n : ℕ) (reading : Matrix K → Matrix K) (r c : ℕ) : Type 0 where
@@ -36,7 +36,7 @@ pub record Spot (K : Kind) (m n : ℕ) (reading : Matrix K → Matrix K) (r c : 
   pub col : ℕ
   pub row-lt : row < m
   pub col-lt : col < n
-  pub shows : Shows K reading row col r c
+  pub shows : Reveals K reading row col r c
 
 pub record Faithful (K : Kind) (names : Mask) (v : View) (m n : ℕ) (reading : Matrix K → Matrix K) : Type 0 where
   pub source : (i p : ℕ) → i < m → p < n → Source K names v reading i p
@@ -45,19 +45,19 @@ pub record Faithful (K : Kind) (names : Mask) (v : View) (m n : ℕ) (reading : 
 -- ---- what holds of a reading by what it shows
 
 module _ (K : Kind) (L : Laws K) (reading : Matrix K → Matrix K) (i p r c : ℕ) where
-  pub shows-same : Shows K reading i p r c → (a a' : Matrix K) → Same K (a r c) (a' r c) → Same K (reading a i p) (reading a' i p)
+  pub shows-same : Reveals K reading i p r c → (a a' : Matrix K) → Same K (a r c) (a' r c) → Same K (reading a i p) (reading a' i p)
   shows-same (plain e) a a' h = rw (e a, e a') h
   shows-same (conjugated e) a a' h = rw (e a, e a') (L .conj-cong h)
 
-  pub same-shown : Shows K reading i p r c → (a a' : Matrix K) → Same K (reading a i p) (reading a' i p) → Same K (a r c) (a' r c)
+  pub same-shown : Reveals K reading i p r c → (a a' : Matrix K) → Same K (reading a i p) (reading a' i p) → Same K (a r c) (a' r c)
   same-shown (plain e) a a' h = rw (e a, e a') at h
   same-shown (conjugated e) a a' h = L .conj-same (rw (e a, e a') at h)
 
-  pub shows-holds : Shows K reading i p r c → (a : Matrix K) → Holds K (a r c) → Holds K (reading a i p)
+  pub shows-holds : Reveals K reading i p r c → (a : Matrix K) → Holds K (a r c) → Holds K (reading a i p)
   shows-holds (plain e) a h = rw (e a) h
   shows-holds (conjugated e) a h = rw (e a) (L .conj-holds h)
 
-  pub shows-finite : Shows K reading i p r c → (a : Matrix K) → Finite K (a r c) → Finite K (reading a i p)
+  pub shows-finite : Reveals K reading i p r c → (a : Matrix K) → Finite K (a r c) → Finite K (reading a i p)
   shows-finite (plain e) a h = rw (e a) h
   shows-finite (conjugated e) a h = rw (e a) (L .conj-finite h)
 
@@ -119,7 +119,7 @@ module _ (K : Kind) (uplo : UpLo) (v : View) (n : ℕ) (hr : v .rows ≡ n) (hc 
   abbrev folded : (K .Elem → K .Elem) → Matrix K → Matrix K
   folded turn a i p = cond (inTriangle uplo i p) (a i p) (turn (a p i))
 
-  folded-faithful : (turn : K .Elem → K .Elem) → ((i p : ℕ) → inTriangle uplo i p ≡ false → Shows K (folded turn) i p p i) →
+  folded-faithful : (turn : K .Elem → K .Elem) → ((i p : ℕ) → inTriangle uplo i p ≡ false → Reveals K (folded turn) i p p i) →
       Faithful K (triangle uplo) v n n (folded turn)
   folded-faithful turn h = record {
     source = λ i p l q. at i p l q (inTriangle uplo i p) refl;

@@ -1,5 +1,5 @@
 -- The theorem for a triangular routine in general: one view besides A's, which is right-hand side and target.
-use Prim.Native.Nat.{ℕ, _^_, _≤_, _<_}
+use Prim.Native.Nat.{ℕ, _*_, _^_, _≤_, _<_}
 use mathlib.Core.Bool.{Bool, true, _&&_}
 use mathlib.Core.List.{List, [], _∷_}
 use mathlib.Core.Path.{_≡_, refl, sym, subst, _∙_}
@@ -57,7 +57,7 @@ pub record Shot (K : Kind) (work : Work K) (names : Mask) (n : ℕ) (v : View) (
   pub slab : List (K .Cell)
   pub count : K .count slab ≡ n
   pub numbers : Held K slab
-  pub size : length slab < 2 ^ 63
+  pub size : K .bytes * length slab < 2 ^ 63
   pub tells : (a' : Matrix K) → Fit K names n a' → SameOutcome K (work (K .one) a v slab) (work (K .one) a' v slab) → Same K (a r c) (a' r c)
 
 -- one for each named element

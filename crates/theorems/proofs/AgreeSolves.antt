@@ -5,9 +5,9 @@ use mathlib.Core.Bool.{Bool, true, false, cond}
 use mathlib.Core.List.{List}
 use mathlib.Core.Path.{_≡_, refl, sym, ap, subst, _∙_}
 use native.Mathlib.Decide.{ℕ-discrete}
-use native.Mathlib.Nat.{one-mul, mul-one, mod-eq-of-lt, mod-one, div-eq-of-lt, div-one}
+use native.Mathlib.Nat.{one-mul, mul-one}
 use native.Mathlib.Omega.{arith}
-use lib.Dec.{eqb}
+use lib.Dec.{eqb, lit≤}
 use borrow.Author.Tests.{eq-eqb, ne-eqb}
 use Rattle.number.specs.Kind.{Kind, Same, Holds, Finite}
 use Rattle.number.specs.Laws.{Laws, SameSlab}
@@ -18,15 +18,18 @@ use Rattle.view.specs.declared.Diag.the-variants.{Unit}
 use Rattle.view.specs.declared.Side.{Side}
 use Rattle.view.specs.declared.Side.the-variants.{Left, Right}
 use Rattle.view.specs.AnyLaws.{clash}
+use Rattle.view.specs.Refusals.{Fits}
 use Rattle.view.specs.Checks.{orderOf}
 use Rattle.blas.specs.Matrix.{Matrix}
-use Rattle.blas.specs.Substitution.{unknownAt, unknown, lastFirst, inOrder, turnOf, lineOf, less, solution, solveOne, solved}
-use Rattle.blas.proofs.SubstitutionLaws.{in-order-lt, in-order-twice}
+use Rattle.blas.specs.Substitution.{unknownAt, unknown, lastFirst, inOrder, minusTerms, solved}
+use Rattle.blas.specs.Solves.{linesOf, formula}
+use Rattle.blas.proofs.Elements.{fits-inside, apart-distinct}
+use Rattle.blas.proofs.SubstitutionLaws.{in-order-lt, in-order-twice, before-earlier, minus-before}
+use Rattle.blas.proofs.Solves.{all-solved}
 use Rattle.theorems.specs.TriangularAgreement.{named}
-use Rattle.theorems.proofs.AgreeProducts.{breadth}
 use Rattle.theorems.proofs.AgreeCoefficients.{Fit, coefficient, times, brings-is, times-zero, times-one, rowIn, colIn, takes, named-takes, named-off, off-diagonal, coefficient-finite, coefficient-holds}
 use Rattle.theorems.proofs.AgreeStrips.{Strip}
-use Rattle.theorems.proofs.AgreeDifferences.{less-same, less-zero, less-one, firstBefore, before-taken, taken-before, before-earlier}
+use Rattle.theorems.proofs.AgreeDifferences.{minus-same, minus-zero, minus-one, firstBefore, before-taken, taken-before}
 
 -- x is number p of the j-th unit vector
 record Delta (K : Kind) (j p : ℕ) (x : K .Elem) : Type 0 where
@@ -67,15 +70,11 @@ column-holds K L side uplo t a j h p =
 
 -- ---- one line is solved unknown after unknown
 
-strip-turn : (side : Side) (v : View) → breadth side v ≡ 1 → (m : ℕ) → m < orderOf side v → (turnOf side v m ≡ m) × (lineOf side v m ≡ 0)
-strip-turn Left v e m h = (mod-eq-of-lt h, div-eq-of-lt h)
-strip-turn Right v e m h = rw e (div-one m, mod-one m)
-
-pub strip-total : (side : Side) (v : View) → breadth side v ≡ 1 → v .rows * v .cols ≡ orderOf side v
+pub strip-total : (side : Side) (v : View) → linesOf side v ≡ 1 → v .rows * v .cols ≡ orderOf side v
 strip-total Left v e = rw e (mul-one (v .rows))
 strip-total Right v e = rw e (one-mul (v .cols))
 
-module _ (K : Kind) (L : Laws K) (side : Side) (uplo : UpLo) (t : Trans) (start : K .Elem → K .Elem) (v : View)
+module _ (K : Kind) (L : Laws K) (side : Side) (uplo : UpLo) (t : Trans) (begin : K .Elem → K .Elem) (v : View)
     (w : Strip side v (orderOf side v)) where
   -- how many unknowns there are, the one that is solved after k others, and where one stands
   abbrev size : ℕ
@@ -93,87 +92,33 @@ module _ (K : Kind) (L : Laws K) (side : Side) (uplo : UpLo) (t : Trans) (start 
   order-twice : (k : ℕ) → k < size → order (order k) ≡ k
   order-twice k h = in-order-twice (lastFirst side uplo t) size k h
 
-  order-other : (i k : ℕ) → i < size → k < size → (i ≡ k → ⊥) → order i ≡ order k → ⊥
-  order-other i k p q o e = o (sym (order-twice i p) ∙ ap order e ∙ order-twice k q)
-
-  spot-other : (p q : ℕ) → p < size → q < size → (p ≡ q → ⊥) → spot p ≡ spot q → ⊥
-  spot-other p q l m o e = o (sym (w .places p l) ∙ e ∙ w .places q m)
-
   module _ (a : Matrix K) (s : List (K .Cell)) (counted : K .count s ≡ size) where
     abbrev after : ℕ → List (K .Cell)
-    after m = solved K side uplo t Unit start a v m s
-
-    -- the value that the unknown gets which is solved after k others
-    abbrev value : ℕ → K .Elem
-    value k = solution K side uplo t Unit start a v k (order k) 0 (after k)
-
-    after-next : (m : ℕ) → m < size → after (suc m) ≡ K .put (after m) (spot (order m)) (value m)
-    unfolding solved solveOne
-    after-next m h = let e = strip-turn side v (w .one-line) m h in λ i. solveOne K side uplo t Unit start a v (e .0 i) (e .1 i) (after m)
-
-    after-count : (m : ℕ) → m ≤ size → K .count (after m) ≡ size
-    unfolding solved
-    after-count zero h = counted
-    after-count (suc m) h = ap (K .count) (after-next m h) ∙ L .slab .count-put (after m) _ _ ∙ after-count m (omega arith)
-
-    solved-here : (m : ℕ) → m < size → K .at (after (suc m)) (spot (order m)) ≡ value m
-    solved-here m h =
-        ap (λ (z : List (K .Cell)). K .at z (spot (order m))) (after-next m h)
-        ∙ L .slab .at-put (after m) (spot (order m)) _ (rw (w .places (order m) (order-lt m h), after-count m (omega arith)) (order-lt m h))
-
-    solved-other : (m p : ℕ) → m < size → p < size → (p ≡ order m → ⊥) → K .at (after (suc m)) (spot p) ≡ K .at (after m) (spot p)
-    solved-other m p h l o =
-        ap (λ (z : List (K .Cell)). K .at z (spot p)) (after-next m h)
-        ∙ L .slab .at-put-other (after m) (spot (order m)) (spot p) _ (spot-other p (order m) l (order-lt m h) o)
-
-    -- an unknown is as it was until its turn
-    not-yet : (k m : ℕ) → k < size → m ≤ k → K .at (after m) (spot (order k)) ≡ K .at s (spot (order k))
-    unfolding solved
-    not-yet k zero h l = refl
-    not-yet k (suc m) h l =
-        solved-other m (order k) (omega arith) (order-lt k h) (order-other k m h (omega arith) (λ e. omega arith)) ∙ not-yet k m h (omega arith)
-
-    -- and keeps the value that it gets
-    kept : (k m : ℕ) → k < m → m ≤ size → K .at (after m) (spot (order k)) ≡ value k
-    kept k zero h l = absurd (nothing k h)
-      where
-        nothing : (k : ℕ) → k < 0 → ⊥
-        nothing k h = omega arith
-    kept k (suc m) h l = at (ℕ-discrete k m) (λ g. kept k m g (omega arith))
-      where
-        at : Dec (k ≡ m) → (k < m → K .at (after m) (spot (order k)) ≡ value k) → K .at (after (suc m)) (spot (order k)) ≡ value k
-        at (yes e) r = subst (λ (i : ℕ). K .at (after (suc m)) (spot (order i)) ≡ value i) (sym e) (solved-here m l)
-        at (no o) r = solved-other m (order k) l (order-lt k (omega arith)) (order-other k m (omega arith) l o) ∙ r (omega arith)
+    after m = solved K side uplo t Unit begin a v m s
 
     -- the solution's unknown p
     abbrev final : ℕ → K .Elem
     final p = unknown K side (after size) v p 0
-
-    settled : (k p : ℕ) → k < size → p < size → order p < k → unknown K side (after k) v p 0 ≡ final p
-    settled k p h l g =
-        subst (λ (i : ℕ). K .at (after k) (spot i) ≡ K .at (after size) (spot i)) (order-twice p l)
-        (kept (order p) k g (omega arith) ∙ sym (kept (order p) size (order-lt p l) (omega arith)))
 
     -- what unknown p of the solution brings into the equation of the unknown that is solved after k others
     abbrev term : ℕ → ℕ → K .Elem
     term k p = times K side (coefficient K side t a (order k) p) (final p)
 
     -- each unknown of the solution is its right-hand side less what those before it bring
-    equation : (k : ℕ) → k < size →
-        Same K (final (order k)) (less K (start (unknown K side s v (order k) 0)) (term k) (firstBefore side uplo t size k) k)
+    equation : (k : ℕ) → k < size → final (order k) ≡ minusTerms K (begin (unknown K side s v (order k) 0)) (term k) (firstBefore side uplo t size k) k
     equation k h =
-        rw (kept k size h (omega arith))
-        (less-same K L _ _ _ _ (firstBefore side uplo t size k) k
-        (rw (not-yet k k h (omega arith)) (L .same-refl _))
-        (λ p i j.
-        let b = before-taken side uplo t size k h p i j in
-        let e = settled k p h (b .0) (before-earlier (lastFirst side uplo t) size k p h i j) in
-        rw (brings-is K side t a (order k) p (unknown K side (after k) v p 0), e) (L .same-refl _)))
+        subst (λ (n : ℕ). unknown K side (after n) v (order k) 0 ≡ formula K side uplo t Unit begin (λ b. b) a v s (after n) (order k) 0) (strip-total side v (w .one-line))
+        (all-solved K (L .slab) side uplo t Unit begin a v s (fits-inside v (K .count s) fits) (apart-distinct v (K .count s) fits (w .apart)) (order k) 0 (order-lt k h) (rw (w .one-line) (lit≤ tt)))
+        ∙ sym (minus-before K (lastFirst side uplo t) size k _ _ h)
+        ∙ (λ i. minusTerms K (begin (unknown K side s v (order k) 0)) (λ p. brings-is K side t a (order k) p (final p) i) (firstBefore side uplo t size k) k)
+      where
+        fits : Fits v (K .count s)
+        fits = rw counted (w .accepted .fits)
 
     -- ---- where the unknowns before it are the j-th unit vector's
 
     module _ (fit : Fit K (named uplo Unit) size a) (b : ℕ → K .Elem) (held : (p : ℕ) → Holds K (b p))
-        (right : (p : ℕ) → p < size → Same K (start (unknown K side s v p 0)) (b p)) (j k : ℕ) (h : k < size)
+        (right : (p : ℕ) → p < size → Same K (begin (unknown K side s v p 0)) (b p)) (j k : ℕ) (h : k < size)
         (before : (p : ℕ) → p < size → order p < k → Delta K j p (final p)) where
       abbrev from : ℕ
       from = firstBefore side uplo t size k
@@ -189,15 +134,15 @@ module _ (K : Kind) (L : Laws K) (side : Side) (uplo : UpLo) (t : Trans) (start 
       zero-term : (p : ℕ) → from ≤ p → p < from + k → (p ≡ j → ⊥) → Same K (term k p) (K .zero)
       zero-term p i l o = times-zero K L side _ _ (term-finite p i l) (delta p i l .other o)
 
-      from-right : Same K (final (order k)) (less K (b (order k)) (term k) from k)
+      from-right : Same K (final (order k)) (minusTerms K (b (order k)) (term k) from k)
       from-right =
-          L .same-trans (equation k h) (less-same K L _ _ _ _ from k (right (order k) (order-lt k h)) (λ p i l. L .same-refl (term k p)))
+          rw (equation k h) (minus-same K L _ _ _ _ from k (right (order k) (order-lt k h)) (λ p i l. L .same-refl (term k p)))
 
       -- it takes none of the unknown j
       alone : (takes side uplo t (order k) j ≡ true → (order k ≡ j → ⊥) → ⊥) → Same K (final (order k)) (b (order k))
       alone no-j =
           L .same-trans from-right
-          (less-zero K L (b (order k)) (term k) from k (held (order k))
+          (minus-zero K L (b (order k)) (term k) from k (held (order k))
           (λ p i l.
           zero-term p i l
           (λ e.
@@ -210,14 +155,14 @@ module _ (K : Kind) (L : Laws K) (side : Side) (uplo : UpLo) (t : Trans) (start 
       once hj e o =
           let m = taken-before side uplo t size k h j hj e o in
           L .same-trans from-right
-          (less-one K L (b (order k)) (coefficient K side t a (order k) j) (term k) from k j (held (order k)) (m .0) (m .1)
+          (minus-one K L (b (order k)) (coefficient K side t a (order k) j) (term k) from k j (held (order k)) (m .0) (m .1)
           (times-one K L side _ _ (coefficient-holds K L side t (order k) j a (fit .holds)) (term-finite j (m .0) (m .1)) (delta j (m .0) (m .1) .here refl))
           zero-term)
 
   -- ---- a column solved with its own matrix is a unit vector
 
   module _ (a : Matrix K) (fit : Fit K (named uplo Unit) size a) (s : List (K .Cell)) (counted : K .count s ≡ size) (j : ℕ) (hj : j < size)
-      (right : (p : ℕ) → p < size → Same K (start (unknown K side s v p 0)) (column K side uplo t a j p)) where
+      (right : (p : ℕ) → p < size → Same K (begin (unknown K side s v p 0)) (column K side uplo t a j p)) where
     held-column : (p : ℕ) → Holds K (column K side uplo t a j p)
     held-column = column-holds K L side uplo t a j (fit .holds)
 

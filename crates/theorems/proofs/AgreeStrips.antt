@@ -18,14 +18,14 @@ use Rattle.view.specs.Vector.{columnOf}
 use Rattle.slab.specs.Update.{Change, everywhere, update}
 use Rattle.slab.proofs.UpdateLaws.{update-shown}
 use Rattle.blas.specs.Substitution.{unknownAt, unknown}
+use Rattle.blas.specs.Solves.{linesOf}
 use Rattle.blas.proofs.Elements.{fits-inside, apart-distinct}
 use Rattle.theorems.proofs.AgreeUnits.{line, line-index, line-column-index, Fair, column-fair, row-fair, vector-accepted, vector-apart}
-use Rattle.theorems.proofs.AgreeProducts.{breadth}
 
 -- v shows n unknowns in one line, the first n elements of a slab
 pub record Strip (side : Side) (v : View) (n : ℕ) : Type 0 where
   pub order : orderOf side v ≡ n
-  pub one-line : breadth side v ≡ 1
+  pub one-line : linesOf side v ≡ 1
   pub places : (p : ℕ) → p < n → unknownAt side v p 0 ≡ p
   pub accepted : Accepted v n
   pub apart : overlaps v ≡ false
@@ -53,7 +53,7 @@ module _ (K : Kind) (L : Laws K) (side : Side) (v : View) (n : ℕ) (w : Strip s
       accepted : Accepted v (K .count s)
       accepted = subst (Accepted v) (sym e) (w .accepted)
 
-      at : (side : Side) → q < orderOf side v → 0 < breadth side v →
+      at : (side : Side) → q < orderOf side v → 0 < linesOf side v →
           unknown K side (update K v everywhere u s) v q 0 ≡ u (rowAt side q) (colAt side q) (unknown K side s v q 0)
       at Left p l = update-shown K (L .slab) v everywhere u s (fits-inside v _ (accepted .fits)) (apart-distinct v _ (accepted .fits) (w .apart)) q 0 p l
       at Right p l = update-shown K (L .slab) v everywhere u s (fits-inside v _ (accepted .fits)) (apart-distinct v _ (accepted .fits) (w .apart)) 0 q l p

@@ -1,5 +1,5 @@
 -- What the Unit cases of trsv and trsm can see of A: over any number kind with its laws.
-use Prim.Native.Nat.{ℕ, _^_, _≤_, _<_}
+use Prim.Native.Nat.{ℕ, _*_, _^_, _≤_, _<_}
 use mathlib.Core.List.{List}
 use mathlib.Core.Path.{_≡_, refl, sym, ap, subst, _∙_}
 use lib.ListN.{length}
@@ -39,7 +39,7 @@ module _ (K : Kind) (L : Laws K) (Z : Zeros K) (side : Side) (v : View) (n : ℕ
   filled-count : K .count filled ≡ n
   filled-count = count-update K (L .slab) v everywhere (λ i j old. b (unknownIn side i j)) (Z .slab n) ∙ Z .count n
 
-  filled-size : n ≤ limit → length filled < 2 ^ 63
+  filled-size : n ≤ limit → K .bytes * length filled < 2 ^ 63
   filled-size h = rw (length-update K (L .slab) v everywhere (λ i j old. b (unknownIn side i j)) (Z .slab n)) (Z .size n h)
 
   filled-held : ((p : ℕ) → Holds K (b p)) → Held K filled
@@ -57,22 +57,22 @@ module _ (K : Kind) (L : Laws K) (Z : Zeros K) (side : Side) (v : View) (n : ℕ
 -- ---- a solve: what alpha does to a right-hand side where it is taken up, and to B's slab before
 
 abbrev solves : (K : Kind) → Side → UpLo → Trans → (K .Elem → K .Elem → K .Elem) → (K .Elem → View → List (K .Cell) → List (K .Cell)) → Work K
-solves K side uplo t start prepare alpha a v s = substituted K side uplo t Unit (start alpha) a v (prepare alpha v s)
+solves K side uplo t begin prepare alpha a v s = substituted K side uplo t Unit (begin alpha) a v (prepare alpha v s)
 
 -- it respects the numbers, and ONE changes none
-record Prepares (K : Kind) (side : Side) (start : K .Elem → K .Elem → K .Elem) (prepare : K .Elem → View → List (K .Cell) → List (K .Cell)) : Type 0 where
-  cong : (alpha x y : K .Elem) → Same K x y → Same K (start alpha x) (start alpha y)
+record Prepares (K : Kind) (side : Side) (begin : K .Elem → K .Elem → K .Elem) (prepare : K .Elem → View → List (K .Cell) → List (K .Cell)) : Type 0 where
+  cong : (alpha x y : K .Elem) → Same K x y → Same K (begin alpha x) (begin alpha y)
   count : (v : View) (s : List (K .Cell)) → K .count (prepare (K .one) v s) ≡ K .count s
   by-one : (v : View) (n : ℕ) → Strip side v n → (s : List (K .Cell)) → K .count s ≡ n → (q : ℕ) → q < n → Holds K (unknown K side s v q 0) →
-      Finite K (unknown K side s v q 0) → Same K (start (K .one) (unknown K side (prepare (K .one) v s) v q 0)) (unknown K side s v q 0)
+      Finite K (unknown K side s v q 0) → Same K (begin (K .one) (unknown K side (prepare (K .one) v s) v q 0)) (unknown K side s v q 0)
 
-module _ (K : Kind) (L : Laws K) (side : Side) (uplo : UpLo) (t : Trans) (start : K .Elem → K .Elem → K .Elem)
-    (prepare : K .Elem → View → List (K .Cell) → List (K .Cell)) (S : Prepares K side start prepare) where
-  solve-respects : Respects K side (solves K side uplo t start prepare) (named uplo Unit)
-  solve-respects alpha a a' v s h = substituted-same K L side uplo t (start alpha) (S .cong alpha) a a' v h (prepare alpha v s)
+module _ (K : Kind) (L : Laws K) (side : Side) (uplo : UpLo) (t : Trans) (begin : K .Elem → K .Elem → K .Elem)
+    (prepare : K .Elem → View → List (K .Cell) → List (K .Cell)) (S : Prepares K side begin prepare) where
+  solve-respects : Respects K side (solves K side uplo t begin prepare) (named uplo Unit)
+  solve-respects alpha a a' v s h = substituted-same K L side uplo t (begin alpha) (S .cong alpha) a a' v h (prepare alpha v s)
 
   line-shots : Zeros K → (v : View) → Strip side v (orderOf side v) → orderOf side v ≤ limit →
-      Shots K (solves K side uplo t start prepare) (named uplo Unit) (orderOf side v) v
+      Shots K (solves K side uplo t begin prepare) (named uplo Unit) (orderOf side v) v
   line-shots Z v w small a fit r c hr hc m = record {
     slab = s;
     count = counted;
@@ -80,11 +80,11 @@ module _ (K : Kind) (L : Laws K) (side : Side) (uplo : UpLo) (t : Trans) (start 
     size = filled-size K L Z side v n b small;
     tells = λ a' fit' o.
         let o' : SameOutcome K (worked K (solution a)) (worked K (solution a')) =
-        rw (unit-solved K side uplo t (start (K .one)) a v lent, unit-solved K side uplo t (start (K .one)) a' v lent, strip-total side v (w .one-line))
+        rw (unit-solved K side uplo t (begin (K .one)) a v entry, unit-solved K side uplo t (begin (K .one)) a' v entry, strip-total side v (w .one-line))
         at o
         in
         element-back K L side t r c a a'
-        (same-column K L side uplo t (start (K .one)) v w a fit lent (S .count v s ∙ counted) j j-lt right
+        (same-column K L side uplo t (begin (K .one)) v w a fit entry (S .count v s ∙ counted) j j-lt right
         a'
         fit'
         (o' .slab)
@@ -120,21 +120,21 @@ module _ (K : Kind) (L : Laws K) (side : Side) (uplo : UpLo) (t : Trans) (start 
       counted = filled-count K L Z side v n b
 
       -- B's slab as the solve takes it up, and as the solve leaves it
-      lent : List (K .Cell)
-      lent = prepare (K .one) v s
+      entry : List (K .Cell)
+      entry = prepare (K .one) v s
 
       solution : Matrix K → List (K .Cell)
-      solution a = solved K side uplo t Unit (start (K .one)) a v n lent
+      solution a = solved K side uplo t Unit (begin (K .one)) a v n entry
 
-      right : (p : ℕ) → p < n → Same K (start (K .one) (unknown K side lent v p 0)) (b p)
+      right : (p : ℕ) → p < n → Same K (begin (K .one) (unknown K side entry v p 0)) (b p)
       right p h =
           let e = filled-shows K L Z side v n b w p h in
-          subst (Same K (start (K .one) (unknown K side lent v p 0))) e
+          subst (Same K (begin (K .one) (unknown K side entry v p 0))) e
           (S .by-one v n w s counted p h (subst (Holds K) (sym e) (held p)) (subst (Finite K) (sym e) (finite p h)))
 
-  solve-shots : Zeros K → (n : ℕ) → n ≤ limit → (v : View) → Strip side v n → Shots K (solves K side uplo t start prepare) (named uplo Unit) n v
+  solve-shots : Zeros K → (n : ℕ) → n ≤ limit → (v : View) → Strip side v n → Shots K (solves K side uplo t begin prepare) (named uplo Unit) n v
   solve-shots Z n small v w =
-      subst (λ (m : ℕ). Shots K (solves K side uplo t start prepare) (named uplo Unit) m v) (w .order)
+      subst (λ (m : ℕ). Shots K (solves K side uplo t begin prepare) (named uplo Unit) m v) (w .order)
       (line-shots Z v (subst (Strip side v) (sym (w .order)) w) (subst (λ (m : ℕ). m ≤ limit) (sym (w .order)) small))
 
 -- ---- trsv and trsm

@@ -108,7 +108,7 @@ pub record Zeros (K : Kind) : Type 0 where
   pub count : (n : ℕ) → K .count (slab n) ≡ n
   pub zero : (n k : ℕ) → k < n → K .at (slab n) k ≡ K .zero
   pub held : (n : ℕ) → Held K (slab n)
-  pub size : (n : ℕ) → n ≤ limit → length (slab n) < 2 ^ 63
+  pub size : (n : ℕ) → n ≤ limit → K .bytes * length (slab n) < 2 ^ 63
 
 -- the slab's first n elements are the j-th unit vector, by whichever function an element's place is worked out
 abbrev pub UnitIn : (K : Kind) → List (K .Cell) → ℕ → ℕ → Type 0

@@ -17,16 +17,16 @@ use Rattle.view.specs.declared.UpLo.{UpLo}
 use Rattle.view.specs.Refusals.{limit, overlaps}
 use Rattle.view.specs.Steps.{Accepted}
 use Rattle.view.specs.Checks.{opRows, opCols, orderOf}
-use Rattle.slab.specs.Elem.{Lent, elem}
+use Rattle.slab.specs.Elem.{Lent, lent, elem}
 use Rattle.slab.specs.Update.{Mask, everywhere, update}
 use Rattle.blas.specs.Matrix.{Matrix, matrix, op, symmetric, hermitian, dot, accumulate}
 use Rattle.view.specs.Triangle.{inTriangle}
 use Rattle.blas.specs.Outcome.{outcome}
-use Rattle.theorems.specs.Exactness.{Scalar, RealScalar, Shows, largestScalarPart}
+use Rattle.theorems.specs.Exactness.{Scalar, RealScalar, Shows, Leaves, largestScalarPart}
 use Rattle.theorems.proofs.ExactSums.{Room, room-old, room-sum, room-product, mul-sized, scale-sized, scaled-sized, scaled-real-sized, accumulate-exact}
 use Rattle.theorems.proofs.ExactReadings.{SizedMatrix, op-sized, symmetric-sized, hermitian-sized, dot-sized}
 use Rattle.theorems.proofs.ExactBasis.{Basis, wholes, elementSize, scalarSize, whole-sized, factor-sized, shows-sized}
-use Rattle.theorems.proofs.ExactTargets.{outcome-same}
+use Rattle.theorems.proofs.ExactTargets.{outcome-leaves}
 
 -- ---- numbers of terms: a routine may add two products for each index
 
@@ -111,10 +111,9 @@ module _ {K Z : Kind} (B : Basis K Z) where
         → (f f' : K .Elem → K .Elem) (x : Matrix K) (old sums : Matrix Z)
         → Scaled mask (v .rows) (v .cols) (λ i j. f (elem K slab v i j)) old → Weighed (v .rows) (v .cols) (λ i j. f' (x i j)) sums
         → (check : Answer) → outcome K check (update K v mask (accumulate K f f' x) slab) slab .answer ≡ 0
-        → (i j : ℕ) → i < v .rows → j < v .cols → mask i j ≡ true
-        → Same K (elem K (outcome K check (update K v mask (accumulate K f f' x) slab) slab .slab) v i j) (B .exact .ofWhole (Z .add (old i j) (sums i j)))
+        → Leaves (wholes B) mask (outcome K check (update K v mask (accumulate K f f' x) slab) slab .slab) (lent K slab v) (λ i j. Z .add (old i j) (sums i j))
     leaves v mask slab accepted apart f f' x old sums h g =
-        outcome-same (B .laws .slab) v mask (accumulate K f f' x) slab accepted apart (λ i j. B .exact .ofWhole (Z .add (old i j) (sums i j)))
+        outcome-leaves (wholes B) (B .laws .slab) v mask (accumulate K f f' x) slab accepted apart (λ i j. Z .add (old i j) (sums i j))
         (λ i j p q u. accumulate-exact (B .exact) n (elementSize B) (scalarSize B) room _ _ (old i j) (sums i j) (h i j p q u) (g i j p q refl))
 
   -- ---- operands

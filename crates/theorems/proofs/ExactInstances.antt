@@ -69,20 +69,20 @@ complex-basis =
       room = λ n h. room-less (2 ^ 53) (2 * limit) n _ _ h complex-room;
     }
 
-pub real64-products : ProductsExact realWholes
-real64-products = products-exact real64-basis
+pub real64-products-exact : ProductsExact realWholes
+real64-products-exact = products-exact real64-basis
 
-pub complex-products : ProductsExact complexWholes
-complex-products = products-exact complex-basis
+pub complex-products-exact : ProductsExact complexWholes
+complex-products-exact = products-exact complex-basis
 
-pub real64-rank : RankExact realWholes
-real64-rank = rank-exact real64-basis
+pub real64-rank-exact : RankExact realWholes
+real64-rank-exact = rank-exact real64-basis
 
-pub complex-rank : RankExact complexWholes
-complex-rank = rank-exact complex-basis
+pub complex-rank-exact : RankExact complexWholes
+complex-rank-exact = rank-exact complex-basis
 
-pub real64-triangles : TrianglesExact realWholes
-real64-triangles = triangles-exact real64-basis
+pub real64-triangles-exact : TrianglesExact realWholes
+real64-triangles-exact = triangles-exact real64-basis
 
-pub complex-triangles : TrianglesExact complexWholes
-complex-triangles = triangles-exact complex-basis
+pub complex-triangles-exact : TrianglesExact complexWholes
+complex-triangles-exact = triangles-exact complex-basis

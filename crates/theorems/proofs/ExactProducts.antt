@@ -2,7 +2,6 @@
 use Prim.Native.Nat.{ℕ}
 use mathlib.Core.Bool.{true, false}
 use mathlib.Core.Path.{_≡_, refl, sym, _∙_}
-use lib.Dec.{lit≤}
 use Rattle.number.specs.Kind.{Kind}
 use Rattle.number.specs.Scaling.{scaled, scaledReal}
 use Rattle.view.specs.declared.View.{View}
@@ -58,14 +57,12 @@ module _ {K Z : Kind} (B : Basis K Z) where
       let passed = judge-passed _ _ _ (answer-done K _ (c .slab) check done) in
       let s = gemm-sizes ta tb (a .view) (b .view) (c .view) (passed .shape) in
       let few = few-op-cols ta (a .view) _ (passed .each .0) in
-      record {
-        left = leaves B _ few (c .view) everywhere (c .slab) (passed .each .1 .1 .0) (passed .distinct) (scaled K beta) (K .mul alpha) _ _ _
-            (by-beta B everywhere _ _ (matrix K c) zc beta zbeta hbeta (λ e. shows-sized B everywhere c zc (hc e)))
-            (by-alpha B _ few _ _ _ _ alpha zalpha halpha
-            (dot-sums B _ few _ _ _ _ _ _ (fit B (s .1) refl (op-range B ta a za ha)) (fit B (s .0) (s .2) (op-range B tb b zb hb))))
-            check
-            done;
-      }
+      leaves B _ few (c .view) everywhere (c .slab) (passed .each .1 .1 .0) (passed .distinct) (scaled K beta) (K .mul alpha) _ _ _
+      (by-beta B everywhere _ _ (matrix K c) zc beta zbeta hbeta (λ e. shows-sized B everywhere c zc (hc e)))
+      (by-alpha B _ few _ _ _ _ alpha zalpha halpha
+      (dot-sums B _ few _ _ _ _ _ _ (fit B (s .1) refl (op-range B ta a za ha)) (fit B (s .0) (s .2) (op-range B tb b zb hb))))
+      check
+      done
 
   -- ---- gemv and hemv: the vectors as columns
 
@@ -76,20 +73,13 @@ module _ {K Z : Kind} (B : Basis K Z) where
       let passed = judge-passed _ _ _ (answer-done K _ (y .slab) check done) in
       let s = gemv-sizes trans (a .view) (x .view) (y .view) (passed .shape) in
       let few = few-op-cols trans (a .view) _ (passed .each .0) in
-      record {
-        left = λ i p. leaves B _ few (columnOf (y .view)) everywhere (y .slab) (column-accepted (y .view) _ (s .1 .vector) (passed .each .1 .1 .0))
-            (column-no-overlap (y .view) (s .1 .vector) (passed .distinct)) (scaled K beta) (K .mul alpha) _ _ _
-            (by-beta B everywhere _ _ (vector K y) (λ i j. zy i) beta zbeta hbeta (λ e. vector-sized B y zy (hy e)))
-            (by-alpha B _ few _ _ _ _ alpha zalpha halpha
-            (dot-sums B _ few _ _ _ _ _ _ (fit B (s .1 .length) refl (op-range B trans a za ha)) (fit B (sym (s .0 .length)) refl (vector-sized B x zx hx))))
-            check
-            done
-            i
-            0
-            p
-            (lit≤ tt)
-            refl;
-      }
+      leaves B _ few (columnOf (y .view)) everywhere (y .slab) (column-accepted (y .view) _ (s .1 .vector) (passed .each .1 .1 .0))
+      (column-no-overlap (y .view) (s .1 .vector) (passed .distinct)) (scaled K beta) (K .mul alpha) _ _ _
+      (by-beta B everywhere _ _ (vector K y) (λ i j. zy i) beta zbeta hbeta (λ e. vector-sized B y zy (hy e)))
+      (by-alpha B _ few _ _ _ _ alpha zalpha halpha
+      (dot-sums B _ few _ _ _ _ _ _ (fit B (s .1 .length) refl (op-range B trans a za ha)) (fit B (sym (s .0 .length)) refl (vector-sized B x zx hx))))
+      check
+      done
 
   pub hemv-exact : HemvExact (wholes B)
   unfolding hemv
@@ -98,20 +88,13 @@ module _ {K Z : Kind} (B : Basis K Z) where
       let passed = judge-passed _ _ _ (answer-done K _ (y .slab) check done) in
       let s = hemv-sizes (a .view) (x .view) (y .view) (passed .shape) in
       let few = few-rows (a .view) _ (passed .each .0) in
-      record {
-        left = λ i p. leaves B _ few (columnOf (y .view)) everywhere (y .slab) (column-accepted (y .view) _ (s .2 .vector) (passed .each .1 .1 .0))
-            (column-no-overlap (y .view) (s .2 .vector) (passed .distinct)) (scaled K beta) (K .mul alpha) _ _ _
-            (by-beta B everywhere _ _ (vector K y) (λ i j. zy i) beta zbeta hbeta (λ e. vector-sized B y zy (hy e)))
-            (by-alpha B _ few _ _ _ _ alpha zalpha halpha
-            (dot-sums B _ few _ _ _ _ _ _ (fit B (s .2 .length) refl (hermitian-range B uplo a za _ refl (s .0) ha)) (fit B (sym (s .1 .length)) refl (vector-sized B x zx hx))))
-            check
-            done
-            i
-            0
-            p
-            (lit≤ tt)
-            refl;
-      }
+      leaves B _ few (columnOf (y .view)) everywhere (y .slab) (column-accepted (y .view) _ (s .2 .vector) (passed .each .1 .1 .0))
+      (column-no-overlap (y .view) (s .2 .vector) (passed .distinct)) (scaled K beta) (K .mul alpha) _ _ _
+      (by-beta B everywhere _ _ (vector K y) (λ i j. zy i) beta zbeta hbeta (λ e. vector-sized B y zy (hy e)))
+      (by-alpha B _ few _ _ _ _ alpha zalpha halpha
+      (dot-sums B _ few _ _ _ _ _ _ (fit B (s .2 .length) refl (hermitian-range B uplo a za _ refl (s .0) ha)) (fit B (sym (s .1 .length)) refl (vector-sized B x zx hx))))
+      check
+      done
 
   -- ---- symm and hemm: x, the symmetric or Hermitian matrix of A, on a side of B
 
@@ -138,17 +121,15 @@ module _ {K Z : Kind} (B : Basis K Z) where
         dot-sums B _ few _ _ _ _ _ _ (fit B (sym (s .2)) (sym (s .3)) (shows-sized B everywhere b zb hb)) (square _ (s .0) (s .1))
 
     sided-exact : (side : Side) → sided side .answer ≡ 0
-        → Leaves (wholes B) everywhere (sided side) (c .view) (λ i j. combined Z zbeta (zc i j) zalpha (onSide Z side (orderOf side (c .view)) zx zb i j))
+        → Leaves (wholes B) everywhere (sided side .slab) c (λ i j. combined Z zbeta (zc i j) zalpha (onSide Z side (orderOf side (c .view)) zx zb i j))
     sided-exact side done =
         let passed = judge-passed _ _ _ (answer-done K _ (c .slab) (checked side) done) in
         let few = few-order side (c .view) _ (passed .each .1 .1 .0) in
-        record {
-          left = leaves B _ few (c .view) everywhere (c .slab) (passed .each .1 .1 .0) (passed .distinct) (scaled K beta) (K .mul alpha) _ _ _
-              (by-beta B everywhere _ _ (matrix K c) zc beta zbeta hbeta (λ e. shows-sized B everywhere c zc (hc e)))
-              (by-alpha B _ few _ _ _ _ alpha zalpha halpha (sums-on side few (passed .shape)))
-              (checked side)
-              done;
-        }
+        leaves B _ few (c .view) everywhere (c .slab) (passed .each .1 .1 .0) (passed .distinct) (scaled K beta) (K .mul alpha) _ _ _
+        (by-beta B everywhere _ _ (matrix K c) zc beta zbeta hbeta (λ e. shows-sized B everywhere c zc (hc e)))
+        (by-alpha B _ few _ _ _ _ alpha zalpha halpha (sums-on side few (passed .shape)))
+        (checked side)
+        done
 
   pub symm-exact : SymmExact (wholes B)
   unfolding symm
@@ -180,13 +161,11 @@ module _ {K Z : Kind} (B : Basis K Z) where
       let check = syrkCheck trans (a .view) (K .count (a .slab)) (c .view) (K .count (c .slab)) in
       let passed = judge-passed _ _ _ (answer-done K _ (c .slab) check done) in
       let few = few-op-cols trans (a .view) _ (passed .each .0) in
-      record {
-        left = leaves B _ few (c .view) (inTriangle uplo) (c .slab) (passed .each .1 .0) (passed .distinct) (scaled K beta) (K .mul alpha) _ _ _
-            (by-beta B (inTriangle uplo) _ _ (matrix K c) zc beta zbeta hbeta (λ e. shows-sized B (inTriangle uplo) c zc (hc e)))
-            (by-alpha B _ few _ _ _ _ alpha zalpha halpha (twice-sums trans (syrkLeft trans) (syrkRight trans) (syrk-turned trans) a za ha (c .view) (passed .shape) few))
-            check
-            done;
-      }
+      leaves B _ few (c .view) (inTriangle uplo) (c .slab) (passed .each .1 .0) (passed .distinct) (scaled K beta) (K .mul alpha) _ _ _
+      (by-beta B (inTriangle uplo) _ _ (matrix K c) zc beta zbeta hbeta (λ e. shows-sized B (inTriangle uplo) c zc (hc e)))
+      (by-alpha B _ few _ _ _ _ alpha zalpha halpha (twice-sums trans (syrkLeft trans) (syrkRight trans) (syrk-turned trans) a za ha (c .view) (passed .shape) few))
+      check
+      done
 
   pub herk-exact : HerkExact (wholes B)
   unfolding herk
@@ -194,13 +173,11 @@ module _ {K Z : Kind} (B : Basis K Z) where
       let check = herkCheck trans (a .view) (K .count (a .slab)) (c .view) (K .count (c .slab)) in
       let passed = judge-passed _ _ _ (answer-done K _ (c .slab) check done) in
       let few = few-op-cols trans (a .view) _ (passed .each .0) in
-      record {
-        left = leaves B _ few (c .view) (inTriangle uplo) (c .slab) (passed .each .1 .0) (passed .distinct) (scaledReal K beta) (K .scaleReal alpha) _ _ _
-            (by-real-beta B (inTriangle uplo) _ _ (matrix K c) zc beta zbeta hbeta (λ e. shows-sized B (inTriangle uplo) c zc (hc e)))
-            (by-real-alpha B _ few _ _ _ _ alpha zalpha halpha (twice-sums trans (herkLeft trans) (herkRight trans) (herk-turned trans) a za ha (c .view) (passed .shape) few))
-            check
-            done;
-      }
+      leaves B _ few (c .view) (inTriangle uplo) (c .slab) (passed .each .1 .0) (passed .distinct) (scaledReal K beta) (K .scaleReal alpha) _ _ _
+      (by-real-beta B (inTriangle uplo) _ _ (matrix K c) zc beta zbeta hbeta (λ e. shows-sized B (inTriangle uplo) c zc (hc e)))
+      (by-real-alpha B _ few _ _ _ _ alpha zalpha halpha (twice-sums trans (herkLeft trans) (herkRight trans) (herk-turned trans) a za ha (c .view) (passed .shape) few))
+      check
+      done
 
   -- ---- all seven
 

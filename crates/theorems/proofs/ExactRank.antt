@@ -17,7 +17,7 @@ use Rattle.view.specs.Triangle.{inTriangle}
 use Rattle.slab.specs.Elem.{Lent, elem}
 use Rattle.slab.specs.Update.{Mask, everywhere}
 use Rattle.blas.specs.Matrix.{Matrix, matrix, vector, op, pairSum}
-use Rattle.blas.specs.Outcome.{Outcome}
+use mathlib.Core.List.{List}
 use Rattle.blas.specs.Syrk.{syrkLeft, syrkRight}
 use Rattle.blas.specs.Herk.{herkLeft, herkRight}
 use Rattle.blas.specs.Her.{her}
@@ -29,7 +29,7 @@ use Rattle.theorems.specs.ExactRank.{outer, bothTerms, byTranspose, byCo
 use Rattle.theorems.proofs.Rings.{Ring, pair-apart, weight-out}
 use Rattle.theorems.proofs.ExactSums.{room-product, room-sum, Sized, wider, add-sized, mul-sized, scale-sized, pair-exact}
 use Rattle.theorems.proofs.ExactReadings.{conj-sized}
-use Rattle.theorems.proofs.ExactTargets.{answer-done, outcome-same}
+use Rattle.theorems.proofs.ExactTargets.{answer-done, outcome-leaves}
 use Rattle.theorems.proofs.ExactBasis.{Basis, wholes, elementSize, scalarSize, whole-sized, factor-sized, shows-sized, vector-sized}
 use Rattle.theorems.proofs.ExactEngine.{Few, Range, Scaled, scaled-fits, product-fits, room, Sums, Weighed, by-beta, by-real-beta, by-alpha, leaves, op-range, fit}
 use Rattle.theorems.proofs.AgreeRoutines.{op-same, op-le}
@@ -66,9 +66,12 @@ module _ {Z : Kind} (R : Ring Z) where
 
 module _ {K Z : Kind} (B : Basis K Z) where
   -- equal formulas
-  becomes : {mask : Mask} {o : Outcome K} {v : View} {z z' : Matrix Z} → ((i j : ℕ) → z i j ≡ z' i j) → Leaves (wholes B) mask o v z → Leaves (wholes B) mask o v z'
-  becomes {mask} {o} {v} e l =
-      record { left = λ i j p q u. subst (λ (w : Z .Elem). Same K (elem K (o .slab) v i j) (B .exact .ofWhole w)) (e i j) (l .left i j p q u) }
+  becomes : {mask : Mask} {after : List (K .Cell)} {c : Lent K} {z z' : Matrix Z} → ((i j : ℕ) → z i j ≡ z' i j) → Leaves (wholes B) mask after c z → Leaves (wholes B) mask after c z'
+  becomes {mask} {after} {c} e l =
+      record {
+        left = λ i j p q u. subst (λ (w : Z .Elem). Same K (elem K after (c .view) i j) (B .exact .ofWhole w)) (e i j) (l .left i j p q u);
+        kept = l .kept;
+      }
 
   -- ---- sizes
 
@@ -119,15 +122,13 @@ module _ {K Z : Kind} (B : Basis K Z) where
       let few : Few 1 = lit≤ tt in
       let r = in-range x zx (a .view .rows) (s .1) hx in
       becomes (λ i j. ap (Z .add (za i j)) (her-formula (B .ring) zalpha zx i j))
-      (record {
-        left = leaves B 1 few (a .view) (inTriangle uplo) (a .slab) (passed .each .1 .0) (passed .distinct) (λ y. y) (λ y. y)
-            (λ i j. K .mul (K .scaleReal alpha (vector K x i 0)) (K .conj (vector K x j 0))) za
-            (λ i j. Z .mul (Z .scaleReal zalpha (zx i)) (Z .conj (zx j)))
-            (old-scaled (shows-sized B (inTriangle uplo) a za ha))
-            (λ i j p q u. wider (B .exact) (omega arith) (her-sized alpha zalpha halpha _ _ (zx i) (zx j) (r i p) (r j (omega (arith, s .0)))))
-            check
-            done;
-      })
+      (leaves B 1 few (a .view) (inTriangle uplo) (a .slab) (passed .each .1 .0) (passed .distinct) (λ y. y) (λ y. y)
+      (λ i j. K .mul (K .scaleReal alpha (vector K x i 0)) (K .conj (vector K x j 0))) za
+      (λ i j. Z .mul (Z .scaleReal zalpha (zx i)) (Z .conj (zx j)))
+      (old-scaled (shows-sized B (inTriangle uplo) a za ha))
+      (λ i j p q u. wider (B .exact) (omega arith) (her-sized alpha zalpha halpha _ _ (zx i) (zx j) (r i p) (r j (omega (arith, s .0)))))
+      check
+      done)
 
   her2-same : (alpha : K .Elem) (x y : ℕ → K .Elem) (zalpha : Z .Elem) (zx zy : ℕ → Z .Elem) (n : ℕ) → Scalar (wholes B) alpha zalpha → InRange n x zx → InRange n y zy
       → (old : K .Elem) (z : Z .Elem) → Sized (B .exact) (elementSize B) old z → (i j : ℕ) → i < n → j < n
@@ -149,14 +150,12 @@ module _ {K Z : Kind} (B : Basis K Z) where
       let passed = judge-passed _ _ _ (answer-done K _ (a .slab) check done) in
       let s = hemv-sizes (a .view) (x .view) (y .view) (passed .shape) in
       becomes (λ i j. her2-formula (B .ring) zalpha zx zy i j (za i j))
-      (record {
-        left = outcome-same (B .laws .slab) (a .view) (inTriangle uplo) (her2Change K alpha (vector K x) (vector K y)) (a .slab) (passed .each .1 .1 .0) (passed .distinct)
-            (λ i j. B .exact .ofWhole (her2Change Z zalpha (λ i j. zx i) (λ i j. zy i) i j (za i j)))
-            (λ i j p q u. her2-same alpha (λ i. vector K x i 0) (λ i. vector K y i 0) zalpha zx zy (a .view .rows) halpha
-            (in-range x zx (a .view .rows) (s .1) hx) (in-range y zy (a .view .rows) (s .2) hy) _ (za i j) (shows-sized B (inTriangle uplo) a za ha i j p q u) i j p (omega (arith, s .0)))
-            check
-            done;
-      })
+      (outcome-leaves (wholes B) (B .laws .slab) (a .view) (inTriangle uplo) (her2Change K alpha (vector K x) (vector K y)) (a .slab) (passed .each .1 .1 .0) (passed .distinct)
+      (λ i j. her2Change Z zalpha (λ i j. zx i) (λ i j. zy i) i j (za i j))
+      (λ i j p q u. her2-same alpha (λ i. vector K x i 0) (λ i. vector K y i 0) zalpha zx zy (a .view .rows) halpha
+      (in-range x zx (a .view .rows) (s .1) hx) (in-range y zy (a .view .rows) (s .2) hy) _ (za i j) (shows-sized B (inTriangle uplo) a za ha i j p q u) i j p (omega (arith, s .0)))
+      check
+      done)
 
   -- ---- syr2k and her2k: A by tl and B by tr, and B by tl and A by tr
 
@@ -214,14 +213,12 @@ module _ {K Z : Kind} (B : Basis K Z) where
       let passed = judge-passed _ _ _ (answer-done K _ (c .slab) check done) in
       let few = few-twice trans (a .view) _ (passed .each .0) in
       becomes (λ i j. ap (Z .add (Z .mul zbeta (zc i j))) (syr2k-formula (B .ring) trans zalpha (opCols trans (a .view)) za zb i j))
-      (record {
-        left = leaves B _ few (c .view) (inTriangle uplo) (c .slab) (passed .each .1 .1 .0) (passed .distinct) (scaled K beta) (K .mul alpha) _ _ _
-            (by-beta B (inTriangle uplo) _ _ (matrix K c) zc beta zbeta hbeta (λ e. shows-sized B (inTriangle uplo) c zc (hc e)))
-            (by-alpha B _ few _ _ _ _ alpha zalpha halpha
-            (pair-sums trans (syrkLeft trans) (syrkRight trans) (syrk-turned trans) a b za zb ha hb (c .view) (passed .shape) few))
-            check
-            done;
-      })
+      (leaves B _ few (c .view) (inTriangle uplo) (c .slab) (passed .each .1 .1 .0) (passed .distinct) (scaled K beta) (K .mul alpha) _ _ _
+      (by-beta B (inTriangle uplo) _ _ (matrix K c) zc beta zbeta hbeta (λ e. shows-sized B (inTriangle uplo) c zc (hc e)))
+      (by-alpha B _ few _ _ _ _ alpha zalpha halpha
+      (pair-sums trans (syrkLeft trans) (syrkRight trans) (syrk-turned trans) a b za zb ha hb (c .view) (passed .shape) few))
+      check
+      done)
 
   pub her2k-exact : Her2kExact (wholes B)
   unfolding her2k
@@ -230,13 +227,11 @@ module _ {K Z : Kind} (B : Basis K Z) where
       let passed = judge-passed _ _ _ (answer-done K _ (c .slab) check done) in
       let few = few-twice trans (a .view) _ (passed .each .0) in
       becomes (λ i j. ap (Z .add (Z .scaleReal zbeta (zc i j))) (her2k-formula (B .ring) trans zalpha (opCols trans (a .view)) za zb i j))
-      (record {
-        left = leaves B _ few (c .view) (inTriangle uplo) (c .slab) (passed .each .1 .1 .0) (passed .distinct) (scaledReal K beta) (λ x. x) _ _ _
-            (by-real-beta B (inTriangle uplo) _ _ (matrix K c) zc beta zbeta hbeta (λ e. shows-sized B (inTriangle uplo) c zc (hc e)))
-            (weighed-pairs trans (herkLeft trans) (herkRight trans) (herk-turned trans) a b za zb ha hb (c .view) (passed .shape) few alpha zalpha halpha)
-            check
-            done;
-      })
+      (leaves B _ few (c .view) (inTriangle uplo) (c .slab) (passed .each .1 .1 .0) (passed .distinct) (scaledReal K beta) (λ x. x) _ _ _
+      (by-real-beta B (inTriangle uplo) _ _ (matrix K c) zc beta zbeta hbeta (λ e. shows-sized B (inTriangle uplo) c zc (hc e)))
+      (weighed-pairs trans (herkLeft trans) (herkRight trans) (herk-turned trans) a b za zb ha hb (c .view) (passed .shape) few alpha zalpha halpha)
+      check
+      done)
 
   -- ---- all four
 

@@ -32,7 +32,7 @@ use Rattle.theorems.specs.ExactTriangles.{onUnit, triangleOf, TrmvExact,
 use Rattle.theorems.proofs.Rings.{Ring, skipped}
 use Rattle.theorems.proofs.ExactSums.{room-sum, Sized, mul-sized, over-exact}
 use Rattle.theorems.proofs.ExactReadings.{conj-sized}
-use Rattle.theorems.proofs.ExactTargets.{answer-done, outcome-same}
+use Rattle.theorems.proofs.ExactTargets.{answer-done, outcome-leaves}
 use Rattle.theorems.proofs.ExactBasis.{Basis, wholes, elementSize, shows-sized, vector-sized}
 use Rattle.theorems.proofs.ExactEngine.{Few, few-rows, few-order, Range, product-fits, room, Sums, by-alpha, fit}
 
@@ -146,21 +146,14 @@ module _ {K Z : Kind} (B : Basis K Z) where
       let few : Few n = few-rows (columnOf (x .view)) _ column in
       let read : Range B (named uplo diag) n n (matrix K a) za = fit B (s .1 .length) (s .1 .length ∙ sym (s .0)) (shows-sized B (named uplo diag) a za ha) in
       let product = timesVector Z (a .view .rows) (op Z trans (triangleOf Z uplo diag za)) zx in
-      record {
-        left = λ i p. outcome-same (B .laws .slab) (columnOf (x .view)) everywhere
-            (λ i j old. triangularDot K Left uplo trans diag n (matrix K a) (vector K x) i j) (x .slab) column (column-no-overlap (x .view) (s .1 .vector) (passed .distinct))
-            (λ i j. B .exact .ofWhole (product i))
-            (λ i j p q u. subst (λ (w : Z .Elem). Same K (triangularDot K Left uplo trans diag n (matrix K a) (vector K x) i j) (B .exact .ofWhole w))
-            (triangular-formula (B .ring) uplo diag za Left trans n (λ i j. zx i) i j ∙ ap (λ (k : ℕ). timesVector Z k (op Z trans (triangleOf Z uplo diag za)) zx i) (s .1 .length))
-            (left-sums uplo diag n (matrix K a) za read trans few (vector K x) (λ i j. zx i) 1 (vector-sized B x zx hx) i j p q refl .same))
-            check
-            done
-            i
-            0
-            p
-            (lit≤ tt)
-            refl;
-      }
+      outcome-leaves (wholes B) (B .laws .slab) (columnOf (x .view)) everywhere
+      (λ i j old. triangularDot K Left uplo trans diag n (matrix K a) (vector K x) i j) (x .slab) column (column-no-overlap (x .view) (s .1 .vector) (passed .distinct))
+      (λ i j. product i)
+      (λ i j p q u. subst (λ (w : Z .Elem). Same K (triangularDot K Left uplo trans diag n (matrix K a) (vector K x) i j) (B .exact .ofWhole w))
+      (triangular-formula (B .ring) uplo diag za Left trans n (λ i j. zx i) i j ∙ ap (λ (k : ℕ). timesVector Z k (op Z trans (triangleOf Z uplo diag za)) zx i) (s .1 .length))
+      (left-sums uplo diag n (matrix K a) za read trans few (vector K x) (λ i j. zx i) 1 (vector-sized B x zx hx) i j p q refl .same))
+      check
+      done
 
   -- ---- trmm
 
@@ -181,16 +174,14 @@ module _ {K Z : Kind} (B : Basis K Z) where
       let n = orderOf side (b .view) in
       let few = few-order side (b .view) _ (passed .each .1 .0) in
       let read : Range B (named uplo diag) n n (matrix K a) za = fit B (sym (s .0)) (sym (s .1)) (shows-sized B (named uplo diag) a za ha) in
-      record {
-        left = outcome-same (B .laws .slab) (b .view) everywhere
-            (λ i j old. K .mul alpha (triangularDot K side uplo trans diag n (matrix K a) (matrix K b) i j)) (b .slab) (passed .each .1 .0) (passed .distinct)
-            (λ i j. B .exact .ofWhole (Z .mul zalpha (onSide Z side n (op Z trans (triangleOf Z uplo diag za)) zb i j)))
-            (λ i j p q u. subst (λ (w : Z .Elem). Same K (K .mul alpha (triangularDot K side uplo trans diag n (matrix K a) (matrix K b) i j)) (B .exact .ofWhole (Z .mul zalpha w)))
-            (triangular-formula (B .ring) uplo diag za side trans n zb i j)
-            (by-alpha B n few _ _ _ _ alpha zalpha halpha (sided-sums side uplo diag trans a b za zb few read hb) i j p q refl .same))
-            check
-            done;
-      }
+      outcome-leaves (wholes B) (B .laws .slab) (b .view) everywhere
+      (λ i j old. K .mul alpha (triangularDot K side uplo trans diag n (matrix K a) (matrix K b) i j)) (b .slab) (passed .each .1 .0) (passed .distinct)
+      (λ i j. Z .mul zalpha (onSide Z side n (op Z trans (triangleOf Z uplo diag za)) zb i j))
+      (λ i j p q u. subst (λ (w : Z .Elem). Same K (K .mul alpha (triangularDot K side uplo trans diag n (matrix K a) (matrix K b) i j)) (B .exact .ofWhole (Z .mul zalpha w)))
+      (triangular-formula (B .ring) uplo diag za side trans n zb i j)
+      (by-alpha B n few _ _ _ _ alpha zalpha halpha (sided-sums side uplo diag trans a b za zb few read hb) i j p q refl .same))
+      check
+      done
 
   pub triangles-exact : TrianglesExact (wholes B)
   triangles-exact = record { trmv = trmv-exact; trmm = trmm-exact }

@@ -34,7 +34,7 @@ use Rattle.blas.specs.Her2k.{her2k}
 use Rattle.blas.specs.Trmm.{trmm}
 use Rattle.theorems.specs.Exactness.{Wholes, Whole, Shows, ShowsVector, largestPart, largestScalarPart, realWholes, complexWholes}
 use Rattle.theorems.specs.TriangularAgreement.{named}
-use Rattle.theorems.proofs.ExactInstances.{real64-products, complex-products, complex-rank, real64-triangles}
+use Rattle.theorems.proofs.ExactInstances.{real64-products-exact, complex-products-exact, complex-rank-exact, real64-triangles-exact}
 
 -- ---- the conditions as tests
 
@@ -108,7 +108,7 @@ pub multiplied-exact : Same real64 (elem real64 (multiplied .slab) (c .view) 0 0
 unfolding za zb rowsOf sum eq isNan
 multiplied-exact =
     let l =
-    real64-products .symm Left Lower (float 2) a b (float 0) c (pos 2) za zb (pos 0) (λ i j. pos 0)
+    real64-products-exact .symm Left Lower (float 2) a b (float 0) c (pos 2) za zb (pos 0) (λ i j. pos 0)
     (whole-by realWholes largestScalarPart (float 2) (pos 2) refl)
     a-shows
     b-shows
@@ -143,7 +143,7 @@ turned-answer = refl
 pub turned-exact : Same complex (elem complex (turned .slab) (columnOf one) 0 0) (number (pos 11) (pos 8))
 unfolding any index place vecStride sum eq isNan
 turned-exact =
-    complex-products .gemv ConjTrans _ (shown (pos 1) (pos 2)) (shown (pos 3) (pos 0)) _ (shown (pos 5) (pos 5))
+    complex-products-exact .gemv ConjTrans _ (shown (pos 1) (pos 2)) (shown (pos 3) (pos 0)) _ (shown (pos 5) (pos 5))
     (whole (pos 0) (pos 1))
     (λ i j. whole (pos 1) (pos 2))
     (λ i. whole (pos 3) (pos 0))
@@ -157,7 +157,10 @@ turned-exact =
     turned-answer
     .left
     0
+    0
     (lit≤ tt)
+    (lit≤ tt)
+    refl
 
 -- ---- her2k Upper NoTrans on complex, alpha i, beta 0: the old C is NaN
 
@@ -175,7 +178,7 @@ updated-answer = refl
 pub updated-exact : Same complex (elem complex (updated .slab) one 0 0) (number (negsuc 11) (pos 0))
 unfolding any index place sum eq isNan
 updated-exact =
-    complex-rank .her2k Upper NoTrans _ (shown (pos 1) (pos 2)) (shown (pos 3) (pos 0)) (float 0) unread
+    complex-rank-exact .her2k Upper NoTrans _ (shown (pos 1) (pos 2)) (shown (pos 3) (pos 0)) (float 0) unread
     (whole (pos 0) (pos 1))
     (λ i j. whole (pos 1) (pos 2))
     (λ i j. whole (pos 3) (pos 0))
@@ -218,7 +221,7 @@ pub triangled-exact : Same real64 (elem real64 (triangled .slab) (b .view) 0 0) 
 unfolding zt zb rowsOf sum eq isNan
 triangled-exact =
     let l =
-    real64-triangles .trmm Left Lower Transposed Unit (float 2) t b (pos 2) zt zb
+    real64-triangles-exact .trmm Left Lower Transposed Unit (float 2) t b (pos 2) zt zb
     (whole-by realWholes largestScalarPart (float 2) (pos 2) refl)
     t-shows
     b-shows

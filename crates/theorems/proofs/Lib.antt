@@ -31,3 +31,4 @@ pub mod AgreeSolves
 pub mod AgreeTriangularSolves
 pub mod AgreeKinds
 pub mod AgreeExamples
+pub mod Calls

@@ -1,8 +1,9 @@
 -- What a product can see of its coefficient matrix A (document 01, demand 3). Two coefficient matrices of one shape have the same
 -- outcome in every call exactly when each named element of the one equals, as a number, that of the other.
-use Prim.Native.Nat.{ℕ, _^_, _<_}
+use Prim.Native.Nat.{ℕ, _*_, _^_, _<_}
 use mathlib.Core.Bool.{true, false}
 use mathlib.Core.Path.{_≡_}
+use lib.Dec.{T}
 use lib.ListN.{length}
 use lib.Signed.{mag}
 use Rattle.number.specs.Kind.{Kind, Same, Holds, Finite}
@@ -51,20 +52,20 @@ pub record Named (names : Mask) (v : View) (i j : ℕ) : Type 0 where
 
 -- the form that the papers want of A: none, or square
 abbrev pub General : View → Type 0
-General v = Unit
+General v = T true
 
 abbrev pub Square : View → Type 0
 Square v = v .rows ≡ v .cols
 
 -- the routine accepts A: it has the form wanted, and draws neither refusal 1 nor refusal 2
-pub record Accepted (K : Kind) (Form : View → Type 0) (a : Lent K) : Type 0 where
+pub record AcceptedMatrix (K : Kind) (Form : View → Type 0) (a : Lent K) : Type 0 where
   pub form : Form (a .view)
   pub not-too-large : tooLarge (a .view) ≡ false
   pub not-out-of-bounds : outOfBounds (a .view) (K .count (a .slab)) ≡ false
 
 -- a matrix that demand 3 speaks of: accepted, in a slab of numbers that the format holds, its named elements finite
 pub record Coefficient (K : Kind) (Form : View → Type 0) (names : Mask) (a : Lent K) : Type 0 where
-  pub accepted : Accepted K Form a
+  pub accepted : AcceptedMatrix K Form a
   pub numbers : Held K (a .slab)
   pub finite : (i j : ℕ) → Named names (a .view) i j → Finite K (matrix K a i j)
 
@@ -94,10 +95,10 @@ pub record Words (v : View) : Type 0 where
   pub rs : mag (v .rs) < 2 ^ 63
   pub cs : mag (v .cs) < 2 ^ 63
 
--- a view with its whole slab: numbers that the format holds, no more of them than a slice can have
+-- a view with its whole slab: numbers that the format holds, of no more bytes than a slice can have
 pub record Lendable (K : Kind) (b : Lent K) : Type 0 where
   pub numbers : Held K (b .slab)
-  pub size : length (b .slab) < 2 ^ 63
+  pub size : K .bytes * length (b .slab) < 2 ^ 63
   pub words : Words (b .view)
 
 -- what a product is given besides A: the scalars, the right-hand side (x or B) and the target (y or C), as they are before the call

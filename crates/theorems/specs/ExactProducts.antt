@@ -36,7 +36,7 @@ module _ {K Z : Kind} (W : Wholes K Z) where
       (zalpha : Z .Elem) (za : Matrix Z) (zx : ℕ → Z .Elem) (zbeta : Z .Elem) (zy : ℕ → Z .Elem)
       → Scalar W alpha zalpha → Shows W everywhere a za → ShowsVector W x zx → Scalar W beta zbeta → (Z .isZero zbeta ≡ false → ShowsVector W y zy)
       → gemv K trans alpha a x beta y .answer ≡ 0
-      → LeavesVector W (gemv K trans alpha a x beta y) (y .view)
+      → LeavesVector W (gemv K trans alpha a x beta y .slab) y
       (λ i. combined Z zbeta (zy i) zalpha (timesVector Z (opCols trans (a .view)) (op Z trans za) zx i))
 
   -- y ← alpha A x + beta y, A Hermitian
@@ -46,7 +46,7 @@ module _ {K Z : Kind} (W : Wholes K Z) where
       (zalpha : Z .Elem) (za : Matrix Z) (zx : ℕ → Z .Elem) (zbeta : Z .Elem) (zy : ℕ → Z .Elem)
       → Scalar W alpha zalpha → Shows W (inTriangle uplo) a za → ShowsVector W x zx → Scalar W beta zbeta → (Z .isZero zbeta ≡ false → ShowsVector W y zy)
       → hemv K uplo alpha a x beta y .answer ≡ 0
-      → LeavesVector W (hemv K uplo alpha a x beta y) (y .view)
+      → LeavesVector W (hemv K uplo alpha a x beta y .slab) y
       (λ i. combined Z zbeta (zy i) zalpha (timesVector Z (a .view .rows) (hermitian Z uplo za) zx i))
 
   -- C ← alpha op(A) op(B) + beta C
@@ -56,7 +56,7 @@ module _ {K Z : Kind} (W : Wholes K Z) where
       (zalpha : Z .Elem) (za zb : Matrix Z) (zbeta : Z .Elem) (zc : Matrix Z)
       → Scalar W alpha zalpha → Shows W everywhere a za → Shows W everywhere b zb → Scalar W beta zbeta → (Z .isZero zbeta ≡ false → Shows W everywhere c zc)
       → gemm K ta tb alpha a b beta c .answer ≡ 0
-      → Leaves W everywhere (gemm K ta tb alpha a b beta c) (c .view)
+      → Leaves W everywhere (gemm K ta tb alpha a b beta c .slab) c
       (λ i j. combined Z zbeta (zc i j) zalpha (dot Z (opCols ta (a .view)) (op Z ta za) (op Z tb zb) i j))
 
   -- C ← alpha A B + beta C or alpha B A + beta C, A symmetric
@@ -66,7 +66,7 @@ module _ {K Z : Kind} (W : Wholes K Z) where
       (zalpha : Z .Elem) (za zb : Matrix Z) (zbeta : Z .Elem) (zc : Matrix Z)
       → Scalar W alpha zalpha → Shows W (inTriangle uplo) a za → Shows W everywhere b zb → Scalar W beta zbeta → (Z .isZero zbeta ≡ false → Shows W everywhere c zc)
       → symm K side uplo alpha a b beta c .answer ≡ 0
-      → Leaves W everywhere (symm K side uplo alpha a b beta c) (c .view)
+      → Leaves W everywhere (symm K side uplo alpha a b beta c .slab) c
       (λ i j. combined Z zbeta (zc i j) zalpha (onSide Z side (orderOf side (c .view)) (symmetric Z uplo za) zb i j))
 
   -- the same, A Hermitian
@@ -76,7 +76,7 @@ module _ {K Z : Kind} (W : Wholes K Z) where
       (zalpha : Z .Elem) (za zb : Matrix Z) (zbeta : Z .Elem) (zc : Matrix Z)
       → Scalar W alpha zalpha → Shows W (inTriangle uplo) a za → Shows W everywhere b zb → Scalar W beta zbeta → (Z .isZero zbeta ≡ false → Shows W everywhere c zc)
       → hemm K side uplo alpha a b beta c .answer ≡ 0
-      → Leaves W everywhere (hemm K side uplo alpha a b beta c) (c .view)
+      → Leaves W everywhere (hemm K side uplo alpha a b beta c .slab) c
       (λ i j. combined Z zbeta (zc i j) zalpha (onSide Z side (orderOf side (c .view)) (hermitian Z uplo za) zb i j))
 
   -- C ← alpha A Aᵀ + beta C (NoTrans) or alpha Aᵀ A + beta C (Trans; ConjTrans is taken as Trans), the named triangle of C
@@ -86,7 +86,7 @@ module _ {K Z : Kind} (W : Wholes K Z) where
       (zalpha : Z .Elem) (za : Matrix Z) (zbeta : Z .Elem) (zc : Matrix Z)
       → Scalar W alpha zalpha → Shows W everywhere a za → Scalar W beta zbeta → (Z .isZero zbeta ≡ false → Shows W (inTriangle uplo) c zc)
       → syrk K uplo trans alpha a beta c .answer ≡ 0
-      → Leaves W (inTriangle uplo) (syrk K uplo trans alpha a beta c) (c .view)
+      → Leaves W (inTriangle uplo) (syrk K uplo trans alpha a beta c .slab) c
       (λ i j. combined Z zbeta (zc i j) zalpha (dot Z (opCols trans (a .view)) (op Z (syrkLeft trans) za) (op Z (syrkRight trans) za) i j))
 
   -- C ← alpha A Aᴴ + beta C (NoTrans) or alpha Aᴴ A + beta C (ConjTrans; Trans is taken as ConjTrans), alpha and beta real, the named triangle of C
@@ -96,7 +96,7 @@ module _ {K Z : Kind} (W : Wholes K Z) where
       (zalpha : Z .Factor) (za : Matrix Z) (zbeta : Z .Factor) (zc : Matrix Z)
       → RealScalar W alpha zalpha → Shows W everywhere a za → RealScalar W beta zbeta → (Z .isZeroFactor zbeta ≡ false → Shows W (inTriangle uplo) c zc)
       → herk K uplo trans alpha a beta c .answer ≡ 0
-      → Leaves W (inTriangle uplo) (herk K uplo trans alpha a beta c) (c .view)
+      → Leaves W (inTriangle uplo) (herk K uplo trans alpha a beta c .slab) c
       (λ i j. combinedReal Z zbeta (zc i j) zalpha (dot Z (opCols trans (a .view)) (op Z (herkLeft trans) za) (op Z (herkRight trans) za) i j))
 
   -- all seven

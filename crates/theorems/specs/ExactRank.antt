@@ -43,7 +43,7 @@ module _ {K Z : Kind} (W : Wholes K Z) where
       (uplo : UpLo) (alpha : K .Factor) (x a : Lent K) (zalpha : Z .Factor) (zx : ℕ → Z .Elem) (za : Matrix Z)
       → RealScalar W alpha zalpha → ShowsVector W x zx → Shows W (inTriangle uplo) a za
       → her K uplo alpha x a .answer ≡ 0
-      → Leaves W (inTriangle uplo) (her K uplo alpha x a) (a .view)
+      → Leaves W (inTriangle uplo) (her K uplo alpha x a .slab) a
       (λ i j. Z .add (za i j) (Z .scaleReal zalpha (outer Z zx zx i j)))
 
   -- A ← alpha x yᴴ + conj(alpha) y xᴴ + A
@@ -52,7 +52,7 @@ module _ {K Z : Kind} (W : Wholes K Z) where
       (uplo : UpLo) (alpha : K .Elem) (x y a : Lent K) (zalpha : Z .Elem) (zx zy : ℕ → Z .Elem) (za : Matrix Z)
       → Scalar W alpha zalpha → ShowsVector W x zx → ShowsVector W y zy → Shows W (inTriangle uplo) a za
       → her2 K uplo alpha x y a .answer ≡ 0
-      → Leaves W (inTriangle uplo) (her2 K uplo alpha x y a) (a .view)
+      → Leaves W (inTriangle uplo) (her2 K uplo alpha x y a .slab) a
       (λ i j. Z .add (za i j) (bothTerms Z zalpha (outer Z zx zy i j) (Z .conj zalpha) (outer Z zy zx i j)))
 
   -- C ← alpha A Bᵀ + alpha B Aᵀ + beta C (NoTrans) or alpha Aᵀ B + alpha Bᵀ A + beta C (Trans)
@@ -63,7 +63,7 @@ module _ {K Z : Kind} (W : Wholes K Z) where
       → Scalar W alpha zalpha → Shows W everywhere a za → Shows W everywhere b zb → Scalar W beta zbeta
       → (Z .isZero zbeta ≡ false → Shows W (inTriangle uplo) c zc)
       → syr2k K uplo trans alpha a b beta c .answer ≡ 0
-      → Leaves W (inTriangle uplo) (syr2k K uplo trans alpha a b beta c) (c .view)
+      → Leaves W (inTriangle uplo) (syr2k K uplo trans alpha a b beta c .slab) c
       (λ i j. Z .add (Z .mul zbeta (zc i j))
       (bothTerms Z zalpha (byTranspose Z trans (opCols trans (a .view)) za zb i j) zalpha (byTranspose Z trans (opCols trans (a .view)) zb za i j)))
 
@@ -75,7 +75,7 @@ module _ {K Z : Kind} (W : Wholes K Z) where
       → Scalar W alpha zalpha → Shows W everywhere a za → Shows W everywhere b zb → RealScalar W beta zbeta
       → (Z .isZeroFactor zbeta ≡ false → Shows W (inTriangle uplo) c zc)
       → her2k K uplo trans alpha a b beta c .answer ≡ 0
-      → Leaves W (inTriangle uplo) (her2k K uplo trans alpha a b beta c) (c .view)
+      → Leaves W (inTriangle uplo) (her2k K uplo trans alpha a b beta c .slab) c
       (λ i j. Z .add (Z .scaleReal zbeta (zc i j))
       (bothTerms Z zalpha (byConjugate Z trans (opCols trans (a .view)) za zb i j) (Z .conj zalpha) (byConjugate Z trans (opCols trans (a .view)) zb za i j)))
 

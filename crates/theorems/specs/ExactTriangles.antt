@@ -36,7 +36,7 @@ module _ {K Z : Kind} (W : Wholes K Z) where
       (uplo : UpLo) (trans : Trans) (diag : Diag) (a x : Lent K) (za : Matrix Z) (zx : ℕ → Z .Elem)
       → Shows W (named uplo diag) a za → ShowsVector W x zx
       → trmv K uplo trans diag a x .answer ≡ 0
-      → LeavesVector W (trmv K uplo trans diag a x) (x .view) (timesVector Z (a .view .rows) (op Z trans (triangleOf Z uplo diag za)) zx)
+      → LeavesVector W (trmv K uplo trans diag a x .slab) x (timesVector Z (a .view .rows) (op Z trans (triangleOf Z uplo diag za)) zx)
 
   -- B ← alpha op(A) B or alpha B op(A), A triangular
   abbrev pub TrmmExact : Type 0
@@ -44,7 +44,7 @@ module _ {K Z : Kind} (W : Wholes K Z) where
       (side : Side) (uplo : UpLo) (trans : Trans) (diag : Diag) (alpha : K .Elem) (a b : Lent K) (zalpha : Z .Elem) (za zb : Matrix Z)
       → Scalar W alpha zalpha → Shows W (named uplo diag) a za → Shows W everywhere b zb
       → trmm K side uplo trans diag alpha a b .answer ≡ 0
-      → Leaves W everywhere (trmm K side uplo trans diag alpha a b) (b .view)
+      → Leaves W everywhere (trmm K side uplo trans diag alpha a b .slab) b
       (λ i j. Z .mul zalpha (onSide Z side (orderOf side (b .view)) (op Z trans (triangleOf Z uplo diag za)) zb i j))
 
   -- both

@@ -1,17 +1,17 @@
 -- Whole numbers among a kind's numbers, and document 01's exact range: the words of the exactness theorems.
 use Prim.Native.Nat.{ℕ, _≤_, _<_, max}
 use mathlib.Core.Bool.{true}
+use mathlib.Core.List.{List}
 use mathlib.Core.Path.{_≡_}
 use lib.IntN.{natAbs}
 use Rattle.number.specs.Kind.{Kind, Same, SameFactor, real64, complex}
 use Rattle.number.specs.Integers.{integers, gaussian, floatOfInteger, complexOfGaussian}
-use Rattle.view.specs.declared.View.{View}
 use Rattle.view.specs.Refusals.{vecLength}
 use Rattle.view.specs.Vector.{columnOf}
-use Rattle.slab.specs.Elem.{Lent, elem}
-use Rattle.slab.specs.Update.{Mask}
+use Rattle.slab.specs.Elem.{Lent, lent, elem}
+use Rattle.slab.specs.Update.{Mask, everywhere}
 use Rattle.blas.specs.Matrix.{Matrix, matrix, vector, sum}
-use Rattle.blas.specs.Outcome.{Outcome}
+use Rattle.blas.specs.Elements.{Keeps}
 
 -- ---- the range (document 01, "Exact range for demand 2")
 
@@ -70,12 +70,14 @@ module _ {K Z : Kind} (W : Wholes K Z) where
   pub record ShowsVector (x : Lent K) (z : ℕ → Z .Elem) : Type 0 where
     pub shown : (i : ℕ) → i < vecLength (x .view) → Whole largestPart (vector K x i 0) (z i)
 
-  -- after a call, each shown element of the target that is written equals z's as a number
-  pub record Leaves (written : Mask) (o : Outcome K) (target : View) (z : Matrix Z) : Type 0 where
-    pub left : (i j : ℕ) → i < target .rows → j < target .cols → written i j ≡ true → Same K (elem K (o .slab) target i j) (W .number (z i j))
+  -- A target after a call: each shown element that is written equals z's as a number, each other one, and every other number of the slab, is as lent.
+  pub record Leaves (written : Mask) (after : List (K .Cell)) (target : Lent K) (z : Matrix Z) : Type 0 where
+    pub left : (i j : ℕ) → i < target .view .rows → j < target .view .cols → written i j ≡ true → Same K (elem K after (target .view) i j) (W .number (z i j))
+    pub kept : Keeps K (target .view) written (target .slab) after
 
-  pub record LeavesVector (o : Outcome K) (target : View) (z : ℕ → Z .Elem) : Type 0 where
-    pub left : (i : ℕ) → i < vecLength target → Same K (elem K (o .slab) (columnOf target) i 0) (W .number (z i))
+  -- the same of a vector, which is one column and is written whole
+  abbrev pub LeavesVector : List (K .Cell) → Lent K → (ℕ → Z .Elem) → Type 0
+  LeavesVector after x z = Leaves everywhere after (lent K (x .slab) (columnOf (x .view))) (λ i j. z i)
 
 -- ---- formulas over whole numbers
 

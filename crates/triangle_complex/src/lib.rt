@@ -6,11 +6,11 @@ ghost use Prim.Native.Nat.{_≤_, _<_};
 ghost use Rattle.number.specs.Kind.{complex};
 ghost use Rattle.view.specs.Place.{index};
 ghost use Rattle.view.specs.Steps.{Accepted};
-ghost use Rattle.slab.specs.Elem.{elem, lent, Shows};
-ghost use Rattle.slab.specs.Run.{plain, more, Spans};
-ghost use Rattle.slab.specs.Update.{step, row, everywhere};
+ghost use Rattle.slab.specs.Elem.{elem, lent, Within};
+ghost use Rattle.slab.specs.Run.{elemConj, plusTerms, Spans};
+ghost use Rattle.slab.specs.Update.{updateOne, updateRow, everywhere};
 ghost use Rattle.blas.specs.Outcome.{Gives};
-ghost use Rattle.blas.specs.Substitution.{less, inOrder};
+ghost use Rattle.blas.specs.Substitution.{minusTerms, inOrder};
 ghost use Rattle.blas.specs.Trsm.{timesAlpha, sidedSolve};
 ghost use Rattle.blas.specs.Trsm;
 ghost use Rattle.blas.specs.Trsv;
@@ -62,8 +62,8 @@ use view::rows;
 
 // Element (i, j) of a view, at place k, conjugated or not.
 fn read(conjugated: bool, s: &[f64], v: View, i: usize, j: usize, k: usize) -> Complex
-    requires { ⌜ Shows v (complex .count (now s)) i j × (k ≡ index v i j) ⌝ }
-    ensures { λ r. ⌜ r ≡ plain complex conjugated (now (s .entry)) v i j ⌝ }
+    requires { ⌜ Within v (complex .count (now s)) i j × (k ≡ index v i j) ⌝ }
+    ensures { λ r. ⌜ r ≡ elemConj complex conjugated (now (s .entry)) v i j ⌝ }
 {
     let x = get_complex(s, k);
     if conjugated { x.conj() } else { x }
@@ -71,8 +71,8 @@ fn read(conjugated: bool, s: &[f64], v: View, i: usize, j: usize, k: usize) -> C
 
 // Element (i, j) of a view, conjugated or not.
 fn at(conjugated: bool, s: &[f64], v: View, i: usize, j: usize) -> Complex
-    requires { ⌜ Shows v (complex .count (now s)) i j ⌝ }
-    ensures { λ r. ⌜ r ≡ plain complex conjugated (now (s .entry)) v i j ⌝ }
+    requires { ⌜ Within v (complex .count (now s)) i j ⌝ }
+    ensures { λ r. ⌜ r ≡ elemConj complex conjugated (now (s .entry)) v i j ⌝ }
 {
     let x = elem_complex(s, v, i, j);
     if conjugated { x.conj() } else { x }
@@ -92,7 +92,7 @@ fn reduce(
     x: Complex,
 ) -> Complex
     requires { ⌜ Spans va (complex .count (now a)) vb (complex .count (now b)) q l from n ⌝ }
-    ensures { λ r. ⌜ r ≡ less complex x (λ p. complex .mul (plain complex conjugated (now (a .entry)) va q p) (elem complex (now (b .entry)) vb p l)) from n ⌝ }
+    ensures { λ r. ⌜ r ≡ minusTerms complex x (λ p. complex .mul (elemConj complex conjugated (now (a .entry)) va q p) (elem complex (now (b .entry)) vb p l)) from n ⌝ }
 {
     let mut rest = x;
     let mut i = 0;
@@ -118,7 +118,7 @@ fn add_run(
     x: Complex,
 ) -> Complex
     requires { ⌜ Spans va (complex .count (now a)) vb (complex .count (now b)) q l from n ⌝ }
-    ensures { λ r. ⌜ r ≡ more complex x (λ p. complex .mul (plain complex conjugated (now (a .entry)) va q p) (elem complex (now (b .entry)) vb p l)) from n ⌝ }
+    ensures { λ r. ⌜ r ≡ plusTerms complex x (λ p. complex .mul (elemConj complex conjugated (now (a .entry)) va q p) (elem complex (now (b .entry)) vb p l)) from n ⌝ }
 {
     let mut sum = x;
     let mut i = 0;
@@ -140,8 +140,8 @@ fn by_pivot(
     pivot: usize,
     x: Complex,
 ) -> Complex
-    requires { ⌜ Shows va (complex .count (now a)) q q × (pivot ≡ index va q q) ⌝ }
-    ensures { λ r. ⌜ r ≡ solve.byDiag complex diag (plain complex conjugated (now (a .entry)) va q q) x ⌝ }
+    requires { ⌜ Within va (complex .count (now a)) q q × (pivot ≡ index va q q) ⌝ }
+    ensures { λ r. ⌜ r ≡ solve.byDiag complex diag (elemConj complex conjugated (now (a .entry)) va q q) x ⌝ }
 {
     match diag {
         Diag::NonUnit => x.div(read(conjugated, a, va, q, q, pivot)),
@@ -151,7 +151,7 @@ fn by_pivot(
 
 // Whether pivot q, which is at place `pivot`, is zero.
 fn zero_pivot(diag: Diag, a: &[f64], va: View, q: usize, pivot: usize) -> bool
-    requires { ⌜ Shows va (complex .count (now a)) q q × (pivot ≡ index va q q) ⌝ }
+    requires { ⌜ Within va (complex .count (now a)) q q × (pivot ≡ index va q q) ⌝ }
     ensures { λ r. ⌜ r ≡ solve.zeroDiag complex diag (elem complex (now (a .entry)) va q q) ⌝ }
 {
     match diag {
@@ -170,7 +170,7 @@ fn times_if(times: bool, alpha: Complex, x: Complex) -> Complex
 // The unknown of line l that comes after k others, solved.
 fn solve_one(sys: System, times: bool, alpha: Complex, a: &[f64], b: &mut [f64], k: usize, l: usize)
     requires { ⌜ ReadyAt sys (complex .count (now a)) (complex .count (now b)) k l ⌝ }
-    ensures { λ _. ⌜ now (b .exit) ≡ solve.solveOne complex sys (timesIf complex times alpha) (now (a .entry)) k l (now (b .entry)) ⌝ }
+    ensures { λ _. ⌜ now (b .exit) ≡ solve.solveUnknown complex sys (timesIf complex times alpha) (now (a .entry)) k l (now (b .entry)) ⌝ }
 {
     let diag = sys.diag;
     let m = rows(sys.b);
@@ -195,8 +195,8 @@ fn less_at(
     u: usize,
     x: Complex,
 ) -> Complex
-    requires { ⌜ Shows va (complex .count (now a)) q p × Shows vb (complex .count (now b)) p 0 × (c ≡ index va q p) × (u ≡ index vb p 0) ⌝ }
-    ensures { λ r. ⌜ r ≡ complex .sub x (complex .mul (plain complex conjugated (now (a .entry)) va q p) (elem complex (now (b .entry)) vb p 0)) ⌝ }
+    requires { ⌜ Within va (complex .count (now a)) q p × Within vb (complex .count (now b)) p 0 × (c ≡ index va q p) × (u ≡ index vb p 0) ⌝ }
+    ensures { λ r. ⌜ r ≡ complex .sub x (complex .mul (elemConj complex conjugated (now (a .entry)) va q p) (elem complex (now (b .entry)) vb p 0)) ⌝ }
 {
     x.sub(read(conjugated, a, va, q, p, c).mul(get_complex(b, u)))
 }
@@ -216,7 +216,7 @@ fn reduce_along(
     solved: usize,
 ) -> Complex
     requires { ⌜ Spans va (complex .count (now a)) vb (complex .count (now b)) q 0 from n × Begins va vb q from n first solved ⌝ }
-    ensures { λ r. ⌜ r ≡ less complex x (λ p. complex .mul (plain complex conjugated (now (a .entry)) va q p) (elem complex (now (b .entry)) vb p 0)) from n ⌝ }
+    ensures { λ r. ⌜ r ≡ minusTerms complex x (λ p. complex .mul (elemConj complex conjugated (now (a .entry)) va q p) (elem complex (now (b .entry)) vb p 0)) from n ⌝ }
 {
     let along = col_step(va);
     let down = row_step(vb);
@@ -236,7 +236,7 @@ fn reduce_along(
 // The unknown of a vector that comes after k others, at these places, solved.
 fn solve_next(sys: System, a: &[f64], b: &mut [f64], k: usize, at: Places)
     requires { ⌜ ReadyAt sys (complex .count (now a)) (complex .count (now b)) k 0 × PlacesAt (sys .last) sys k at ⌝ }
-    ensures { λ _. ⌜ now (b .exit) ≡ solve.solveOne complex sys (λ x. x) (now (a .entry)) k 0 (now (b .entry)) ⌝ }
+    ensures { λ _. ⌜ now (b .exit) ≡ solve.solveUnknown complex sys (λ x. x) (now (a .entry)) k 0 (now (b .entry)) ⌝ }
 {
     let diag = sys.diag;
     let m = rows(sys.b);
@@ -366,8 +366,8 @@ fn solve_lines(sys: System, times: bool, alpha: Complex, a: &[f64], b: &mut [f64
 
 // Element (i, j) of B times alpha.
 fn scale_one(alpha: Complex, b: &mut [f64], vb: View, i: usize, j: usize)
-    requires { ⌜ Shows vb (complex .count (now b)) i j ⌝ }
-    ensures { λ _. ⌜ now (b .exit) ≡ step complex vb everywhere (λ i j x. complex .mul alpha x) i j (now (b .entry)) ⌝ }
+    requires { ⌜ Within vb (complex .count (now b)) i j ⌝ }
+    ensures { λ _. ⌜ now (b .exit) ≡ updateOne complex vb everywhere (λ i j x. complex .mul alpha x) i j (now (b .entry)) ⌝ }
 {
     let x = elem_complex(b, vb, i, j);
     put_complex(b, place(vb, i, j), alpha.mul(x));
@@ -376,7 +376,7 @@ fn scale_one(alpha: Complex, b: &mut [f64], vb: View, i: usize, j: usize)
 // Row i of B times alpha.
 fn scale_row(alpha: Complex, b: &mut [f64], vb: View, i: usize)
     requires { ⌜ Accepted vb (complex .count (now b)) × (i < vb .rows) ⌝ }
-    ensures { λ _. ⌜ now (b .exit) ≡ row complex vb everywhere (λ i j x. complex .mul alpha x) i (vb .cols) (now (b .entry)) ⌝ }
+    ensures { λ _. ⌜ now (b .exit) ≡ updateRow complex vb everywhere (λ i j x. complex .mul alpha x) i (vb .cols) (now (b .entry)) ⌝ }
 {
     let n = cols(vb);
     let mut j = 0;
@@ -432,8 +432,8 @@ fn sided(
 
 // What the diagonal weighs.
 fn own_weight(diag: Diag, conjugated: bool, a: &[f64], va: View, q: usize) -> Complex
-    requires { ⌜ Shows va (complex .count (now a)) q q ⌝ }
-    ensures { λ r. ⌜ r ≡ multiply.ownDiag complex diag (plain complex conjugated (now (a .entry)) va q q) ⌝ }
+    requires { ⌜ Within va (complex .count (now a)) q q ⌝ }
+    ensures { λ r. ⌜ r ≡ multiply.ownDiag complex diag (elemConj complex conjugated (now (a .entry)) va q q) ⌝ }
 {
     match diag {
         Diag::NonUnit => at(conjugated, a, va, q, q),

@@ -7,11 +7,11 @@ ghost use Rattle.number.specs.Kind.{real64};
 ghost use Rattle.view.specs.Place.{index};
 ghost use Rattle.view.specs.Steps.{Accepted};
 ghost use Rattle.slab.specs.Distinct.{Distinct};
-ghost use Rattle.slab.specs.Elem.{elem, lent, Shows};
-ghost use Rattle.slab.specs.Run.{plain, more, Spans};
-ghost use Rattle.slab.specs.Update.{step, row, everywhere};
+ghost use Rattle.slab.specs.Elem.{elem, lent, Within};
+ghost use Rattle.slab.specs.Run.{elemConj, plusTerms, Spans};
+ghost use Rattle.slab.specs.Update.{updateOne, updateRow, everywhere};
 ghost use Rattle.blas.specs.Outcome.{Gives};
-ghost use Rattle.blas.specs.Substitution.{less, inOrder};
+ghost use Rattle.blas.specs.Substitution.{minusTerms, inOrder};
 ghost use Rattle.blas.specs.Trsm.{timesAlpha, sidedSolve};
 ghost use Rattle.blas.specs.Trsm;
 ghost use Rattle.blas.specs.Trsv;
@@ -60,16 +60,16 @@ use view::rows;
 
 // Element (i, j) of a view, at place k: a real number is its own conjugate.
 fn read(conjugated: bool, s: &[f64], v: View, i: usize, j: usize, k: usize) -> Real64
-    requires { ⌜ Shows v (real64 .count (now s)) i j × (k ≡ index v i j) ⌝ }
-    ensures { λ r. ⌜ r .0 ≡ plain real64 conjugated (now (s .entry)) v i j ⌝ }
+    requires { ⌜ Within v (real64 .count (now s)) i j × (k ≡ index v i j) ⌝ }
+    ensures { λ r. ⌜ r .0 ≡ elemConj real64 conjugated (now (s .entry)) v i j ⌝ }
 {
     get64(s, k)
 }
 
 // Element (i, j) of a view: a real number is its own conjugate.
 fn at(conjugated: bool, s: &[f64], v: View, i: usize, j: usize) -> Real64
-    requires { ⌜ Shows v (real64 .count (now s)) i j ⌝ }
-    ensures { λ r. ⌜ r .0 ≡ plain real64 conjugated (now (s .entry)) v i j ⌝ }
+    requires { ⌜ Within v (real64 .count (now s)) i j ⌝ }
+    ensures { λ r. ⌜ r .0 ≡ elemConj real64 conjugated (now (s .entry)) v i j ⌝ }
 {
     elem64(s, v, i, j)
 }
@@ -86,8 +86,8 @@ fn less_term(
     p: usize,
     x: f64,
 ) -> f64
-    requires { ⌜ Shows va (real64 .count (now a)) q p × Shows vb (real64 .count (now b)) p l ⌝ }
-    ensures { λ r. ⌜ r ≡ real64 .sub x (real64 .mul (plain real64 conjugated (now (a .entry)) va q p) (elem real64 (now (b .entry)) vb p l)) ⌝ }
+    requires { ⌜ Within va (real64 .count (now a)) q p × Within vb (real64 .count (now b)) p l ⌝ }
+    ensures { λ r. ⌜ r ≡ real64 .sub x (real64 .mul (elemConj real64 conjugated (now (a .entry)) va q p) (elem real64 (now (b .entry)) vb p l)) ⌝ }
 {
     Real64(x)
         .sub(at(conjugated, a, va, q, p).mul(elem64(b, vb, p, l)))
@@ -108,7 +108,7 @@ fn reduce(
     x: f64,
 ) -> f64
     requires { ⌜ Spans va (real64 .count (now a)) vb (real64 .count (now b)) q l from n ⌝ }
-    ensures { λ r. ⌜ r ≡ less real64 x (λ p. real64 .mul (plain real64 conjugated (now (a .entry)) va q p) (elem real64 (now (b .entry)) vb p l)) from n ⌝ }
+    ensures { λ r. ⌜ r ≡ minusTerms real64 x (λ p. real64 .mul (elemConj real64 conjugated (now (a .entry)) va q p) (elem real64 (now (b .entry)) vb p l)) from n ⌝ }
 {
     let pairs = n / 2;
     let mut rest = x;
@@ -140,7 +140,7 @@ fn add_run(
     x: f64,
 ) -> f64
     requires { ⌜ Spans va (real64 .count (now a)) vb (real64 .count (now b)) q l from n ⌝ }
-    ensures { λ r. ⌜ r ≡ more real64 x (λ p. real64 .mul (plain real64 conjugated (now (a .entry)) va q p) (elem real64 (now (b .entry)) vb p l)) from n ⌝ }
+    ensures { λ r. ⌜ r ≡ plusTerms real64 x (λ p. real64 .mul (elemConj real64 conjugated (now (a .entry)) va q p) (elem real64 (now (b .entry)) vb p l)) from n ⌝ }
 {
     let mut sum = x;
     let mut i = 0;
@@ -168,8 +168,8 @@ fn by_pivot(
     pivot: usize,
     x: f64,
 ) -> f64
-    requires { ⌜ Shows va (real64 .count (now a)) q q × (pivot ≡ index va q q) ⌝ }
-    ensures { λ r. ⌜ r ≡ solve.byDiag real64 diag (plain real64 conjugated (now (a .entry)) va q q) x ⌝ }
+    requires { ⌜ Within va (real64 .count (now a)) q q × (pivot ≡ index va q q) ⌝ }
+    ensures { λ r. ⌜ r ≡ solve.byDiag real64 diag (elemConj real64 conjugated (now (a .entry)) va q q) x ⌝ }
 {
     match diag {
         Diag::NonUnit => Real64(x).div(read(conjugated, a, va, q, q, pivot)).0,
@@ -179,7 +179,7 @@ fn by_pivot(
 
 // Whether pivot q, which is at place `pivot`, is zero.
 fn zero_pivot(diag: Diag, a: &[f64], va: View, q: usize, pivot: usize) -> bool
-    requires { ⌜ Shows va (real64 .count (now a)) q q × (pivot ≡ index va q q) ⌝ }
+    requires { ⌜ Within va (real64 .count (now a)) q q × (pivot ≡ index va q q) ⌝ }
     ensures { λ r. ⌜ r ≡ solve.zeroDiag real64 diag (elem real64 (now (a .entry)) va q q) ⌝ }
 {
     match diag {
@@ -191,7 +191,7 @@ fn zero_pivot(diag: Diag, a: &[f64], va: View, q: usize, pivot: usize) -> bool
 // The unknown of line l that comes after k others, solved, with A on the left: its right-hand side is multiplied by alpha.
 fn left_one(sys: System, alpha: Real64, a: &[f64], b: &mut [f64], k: usize, l: usize)
     requires { ⌜ ReadyAt sys (real64 .count (now a)) (real64 .count (now b)) k l ⌝ }
-    ensures { λ _. ⌜ now (b .exit) ≡ solve.solveOne real64 sys (real64 .mul (alpha .0)) (now (a .entry)) k l (now (b .entry)) ⌝ }
+    ensures { λ _. ⌜ now (b .exit) ≡ solve.solveUnknown real64 sys (real64 .mul (alpha .0)) (now (a .entry)) k l (now (b .entry)) ⌝ }
 {
     let diag = sys.diag;
     let m = rows(sys.b);
@@ -206,7 +206,7 @@ fn left_one(sys: System, alpha: Real64, a: &[f64], b: &mut [f64], k: usize, l: u
 // The same with A on the right, where B is multiplied already.
 fn right_one(sys: System, a: &[f64], b: &mut [f64], k: usize, l: usize)
     requires { ⌜ ReadyAt sys (real64 .count (now a)) (real64 .count (now b)) k l ⌝ }
-    ensures { λ _. ⌜ now (b .exit) ≡ solve.solveOne real64 sys (λ x. x) (now (a .entry)) k l (now (b .entry)) ⌝ }
+    ensures { λ _. ⌜ now (b .exit) ≡ solve.solveUnknown real64 sys (λ x. x) (now (a .entry)) k l (now (b .entry)) ⌝ }
 {
     let diag = sys.diag;
     let m = rows(sys.b);
@@ -231,8 +231,8 @@ fn less_at(
     u: usize,
     x: f64,
 ) -> f64
-    requires { ⌜ Shows va (real64 .count (now a)) q p × Shows vb (real64 .count (now b)) p 0 × (c ≡ index va q p) × (u ≡ index vb p 0) ⌝ }
-    ensures { λ r. ⌜ r ≡ real64 .sub x (real64 .mul (plain real64 conjugated (now (a .entry)) va q p) (elem real64 (now (b .entry)) vb p 0)) ⌝ }
+    requires { ⌜ Within va (real64 .count (now a)) q p × Within vb (real64 .count (now b)) p 0 × (c ≡ index va q p) × (u ≡ index vb p 0) ⌝ }
+    ensures { λ r. ⌜ r ≡ real64 .sub x (real64 .mul (elemConj real64 conjugated (now (a .entry)) va q p) (elem real64 (now (b .entry)) vb p 0)) ⌝ }
 {
     Real64(x)
         .sub(read(conjugated, a, va, q, p, c).mul(get64(b, u)))
@@ -256,7 +256,7 @@ fn reduce_along(
     stop: usize,
 ) -> f64
     requires { ⌜ Spans va (real64 .count (now a)) vb (real64 .count (now b)) q 0 from n × Begins va vb q from n first solved × Ends vb from n solved stop ⌝ }
-    ensures { λ r. ⌜ r ≡ less real64 x (λ p. real64 .mul (plain real64 conjugated (now (a .entry)) va q p) (elem real64 (now (b .entry)) vb p 0)) from n ⌝ }
+    ensures { λ r. ⌜ r ≡ minusTerms real64 x (λ p. real64 .mul (elemConj real64 conjugated (now (a .entry)) va q p) (elem real64 (now (b .entry)) vb p 0)) from n ⌝ }
 {
     let along = col_step(va);
     let down = row_step(vb);
@@ -276,7 +276,7 @@ fn reduce_along(
 // The unknown of a vector that comes after k others, at these places, solved.
 fn solve_next(sys: System, a: &[f64], b: &mut [f64], k: usize, at: Places)
     requires { ⌜ ReadyAt sys (real64 .count (now a)) (real64 .count (now b)) k 0 × PlacesAt (sys .last) sys k at × Distinct (sys .b) ⌝ }
-    ensures { λ _. ⌜ now (b .exit) ≡ solve.solveOne real64 sys (λ x. x) (now (a .entry)) k 0 (now (b .entry)) ⌝ }
+    ensures { λ _. ⌜ now (b .exit) ≡ solve.solveUnknown real64 sys (λ x. x) (now (a .entry)) k 0 (now (b .entry)) ⌝ }
 {
     let diag = sys.diag;
     let m = rows(sys.b);
@@ -419,7 +419,7 @@ fn reached(sys: System, a: &[f64]) -> usize
 // The unknown of line l that is solved first, with A on the left: it has no sum.
 fn left_first(sys: System, alpha: Real64, a: &[f64], b: &mut [f64], l: usize)
     requires { ⌜ ReadyAt sys (real64 .count (now a)) (real64 .count (now b)) 0 l ⌝ }
-    ensures { λ _. ⌜ now (b .exit) ≡ solve.solveOne real64 sys (real64 .mul (alpha .0)) (now (a .entry)) 0 l (now (b .entry)) ⌝ }
+    ensures { λ _. ⌜ now (b .exit) ≡ solve.solveUnknown real64 sys (real64 .mul (alpha .0)) (now (a .entry)) 0 l (now (b .entry)) ⌝ }
 {
     let diag = sys.diag;
     let m = rows(sys.b);
@@ -485,7 +485,7 @@ fn left_lines(sys: System, alpha: Real64, a: &[f64], b: &mut [f64]) -> Answer
 // The unknown of line l that is solved first, with A on the right: it has no sum.
 fn right_first(sys: System, a: &[f64], b: &mut [f64], l: usize)
     requires { ⌜ ReadyAt sys (real64 .count (now a)) (real64 .count (now b)) 0 l ⌝ }
-    ensures { λ _. ⌜ now (b .exit) ≡ solve.solveOne real64 sys (λ x. x) (now (a .entry)) 0 l (now (b .entry)) ⌝ }
+    ensures { λ _. ⌜ now (b .exit) ≡ solve.solveUnknown real64 sys (λ x. x) (now (a .entry)) 0 l (now (b .entry)) ⌝ }
 {
     let diag = sys.diag;
     let m = rows(sys.b);
@@ -550,8 +550,8 @@ fn right_lines(sys: System, a: &[f64], b: &mut [f64]) -> Answer
 
 // Element (i, j) of B times alpha.
 fn scale_one(alpha: Real64, b: &mut [f64], vb: View, i: usize, j: usize)
-    requires { ⌜ Shows vb (real64 .count (now b)) i j ⌝ }
-    ensures { λ _. ⌜ now (b .exit) ≡ step real64 vb everywhere (λ i j x. real64 .mul (alpha .0) x) i j (now (b .entry)) ⌝ }
+    requires { ⌜ Within vb (real64 .count (now b)) i j ⌝ }
+    ensures { λ _. ⌜ now (b .exit) ≡ updateOne real64 vb everywhere (λ i j x. real64 .mul (alpha .0) x) i j (now (b .entry)) ⌝ }
 {
     let x = elem64(b, vb, i, j);
     put64(b, place(vb, i, j), alpha.mul(x));
@@ -560,7 +560,7 @@ fn scale_one(alpha: Real64, b: &mut [f64], vb: View, i: usize, j: usize)
 // Row i of B times alpha.
 fn scale_row(alpha: Real64, b: &mut [f64], vb: View, i: usize)
     requires { ⌜ Accepted vb (real64 .count (now b)) × (i < vb .rows) ⌝ }
-    ensures { λ _. ⌜ now (b .exit) ≡ row real64 vb everywhere (λ i j x. real64 .mul (alpha .0) x) i (vb .cols) (now (b .entry)) ⌝ }
+    ensures { λ _. ⌜ now (b .exit) ≡ updateRow real64 vb everywhere (λ i j x. real64 .mul (alpha .0) x) i (vb .cols) (now (b .entry)) ⌝ }
 {
     let n = cols(vb);
     let mut j = 0;
@@ -643,8 +643,8 @@ fn sided(
 
 // What the diagonal weighs.
 fn own_weight(diag: Diag, conjugated: bool, a: &[f64], va: View, q: usize) -> Real64
-    requires { ⌜ Shows va (real64 .count (now a)) q q ⌝ }
-    ensures { λ r. ⌜ r .0 ≡ multiply.ownDiag real64 diag (plain real64 conjugated (now (a .entry)) va q q) ⌝ }
+    requires { ⌜ Within va (real64 .count (now a)) q q ⌝ }
+    ensures { λ r. ⌜ r .0 ≡ multiply.ownDiag real64 diag (elemConj real64 conjugated (now (a .entry)) va q q) ⌝ }
 {
     match diag {
         Diag::NonUnit => at(conjugated, a, va, q, q),

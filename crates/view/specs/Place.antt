@@ -6,6 +6,10 @@ use Rattle.view.specs.declared.View.{View}
 use Rattle.view.specs.declared.Trans.{Trans}
 use Rattle.view.specs.declared.Trans.the-variants.{NoTrans, Trans as Transposed, ConjTrans}
 
+-- a view by its five numbers
+abbrev pub viewOf : ℕ → ℕ → ℕ → ℤ → ℤ → View
+viewOf start rows cols rs cs = record { start = start; rows = rows; cols = cols; rs = rs; cs = cs }
+
 -- start + r · row stride + c · column stride, over the integers
 unfoldable pub place : View → ℕ → ℕ → ℤ
 place v r c = pos (v .start) +ℤ pos r *ℤ v .rs +ℤ pos c *ℤ v .cs

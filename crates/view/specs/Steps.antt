@@ -25,10 +25,6 @@ stepOf (negsuc n) = 2 ^ 64 - 1 - n
 unfoldable pub meets : ℕ → ℕ → ℕ → ℕ → Bool
 meets rows x cols y = any rows (λ k. any cols (λ d. ltb 0 (k + d) && eqb (k * x) (d * y)))
 
--- a view by its parts
-abbrev pub viewOf : ℕ → ℕ → ℕ → ℤ → ℤ → View
-viewOf start rows cols rs cs = record { start = start; rows = rows; cols = cols; rs = rs; cs = cs }
-
 -- a view that a passed check leaves: its sizes are within the limit, and it fits its slab
 pub record Accepted (v : View) (len : ℕ) : Type 0 where
   pub rows-le : v .rows ≤ limit

@@ -5,7 +5,7 @@ ghost use Prim.Native.Nat.{_+_, _%_, _<_, _^_};
 ghost use lib.IntN.{pos, _*ℤ_};
 ghost use mir.Syntax.{w64};
 ghost use mir.Val.{SFits};
-ghost use Rattle.view.specs.Place.{index, transposedOf, opViewOf, isConj};
+ghost use Rattle.view.specs.Place.{viewOf, index, transposedOf, opViewOf, isConj};
 ghost use Rattle.view.specs.Vector.{vecCoord, uprightOf, columnOf};
 ghost use Rattle.view.specs.Triangle.{firstCol, endCol};
 ghost use Rattle.view.specs.Judge.{answerNumber, isDone};
@@ -88,6 +88,19 @@ pub fn passed(a: Answer) -> bool
         Answer::ShapeMismatch => false,
         Answer::Overlap => false,
         Answer::Singular => false,
+    }
+}
+
+// A view by its five numbers.
+pub fn view_of(start: usize, rows: usize, cols: usize, rs: i64, cs: i64) -> View
+    ensures { λ r. ⌜ r ≡ viewOf start rows cols rs cs ⌝ }
+{
+    View {
+        start,
+        rows,
+        cols,
+        rs,
+        cs,
     }
 }
 

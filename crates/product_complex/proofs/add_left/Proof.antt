@@ -3,20 +3,20 @@ use mathlib.Core.Path.{_≡_}
 use native.Mathlib.Omega.{arith}
 use denote.Ref.{now}
 use Rattle.number.specs.Kind.{complex}
-use Rattle.slab.specs.Run.{more}
+use Rattle.slab.specs.Run.{plusTerms}
 use Rattle.product_plan.specs.Plan.{term}
-use Rattle.product_plan.proofs.Sums.{more-start, more-end, left-next}
+use Rattle.product_plan.proofs.Sums.{plus-start, plus-end, left-next}
 use Rattle.product_complex.proofs.add_left.Statement.{statement}
 use Rattle.product_complex.proofs.add_left.Tie as tie
 
 abbrev Inv-loop : tie.InvT-loop
-Inv-loop f a b i j from end total₀ p₀ total p = (from ≤ p) × (p ≤ end) × (total ≡ more complex total₀ (term complex f a b i j) from (p - from))
+Inv-loop f a b i j from end total₀ p₀ total p = (from ≤ p) × (p ≤ end) × (total ≡ plusTerms complex total₀ (term complex f a b i j) from (p - from))
 
 abbrev μ-loop : tie.MeasureT-loop
 μ-loop f a b i j from end total₀ p₀ total p = end - p
 
 loop-holds : tie.Need-loop-holds Inv-loop μ-loop
-loop-holds c = (omega arith, c .before .before .pre .0 .ordered, more-start complex _ _ _)
+loop-holds c = (omega arith, c .before .before .pre .0 .ordered, plus-start complex _ _ _)
 
 at-requires : tie.Need-at-requires Inv-loop μ-loop
 at-requires c κs = c .before .before .before .before .pre .0 .left _ (omega arith)
@@ -42,7 +42,7 @@ loop-again c =
     (omega arith, omega arith, left-next complex (p .f) (now (p .a)) (now (p .b)) (p .i) (p .j) _ _ _ _ _ _ _ _ (c .before .before .before .before .before .loop .inv .0) (c .before .before .before .before .before .before .before .before .pre .1) (c .before .before .before .before .before .loop .inv .2) (c .before .before .before .at .ensures) (c .before .before .elem-complex .ensures) (c .before .mul .ensures) (c .add .ensures))
 
 returns : tie.Need-returns Inv-loop μ-loop
-returns c = more-end complex _ _ _ _ _ _ (c .before .loop .inv .1) (omega arith) (c .before .loop .inv .2)
+returns c = plus-end complex _ _ _ _ _ _ (c .before .loop .inv .1) (omega arith) (c .before .loop .inv .2)
 
 pub add-left-spec : {M : Type 1} → statement M
 add-left-spec =

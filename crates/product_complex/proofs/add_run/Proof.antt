@@ -3,20 +3,20 @@ use mathlib.Core.Path.{_≡_}
 use native.Mathlib.Omega.{arith}
 use denote.Ref.{now}
 use Rattle.number.specs.Kind.{complex}
-use Rattle.slab.specs.Run.{more}
+use Rattle.slab.specs.Run.{plusTerms}
 use Rattle.product_plan.specs.Plan.{term}
-use Rattle.product_plan.proofs.Sums.{more-start, more-end, term-next}
+use Rattle.product_plan.proofs.Sums.{plus-start, plus-end, term-next}
 use Rattle.product_complex.proofs.add_run.Statement.{statement}
 use Rattle.product_complex.proofs.add_run.Tie as tie
 
 abbrev Inv-loop : tie.InvT-loop
-Inv-loop f a b i j from end total₀ p₀ total p = (from ≤ p) × (p ≤ end) × (total ≡ more complex total₀ (term complex f a b i j) from (p - from))
+Inv-loop f a b i j from end total₀ p₀ total p = (from ≤ p) × (p ≤ end) × (total ≡ plusTerms complex total₀ (term complex f a b i j) from (p - from))
 
 abbrev μ-loop : tie.MeasureT-loop
 μ-loop f a b i j from end total₀ p₀ total p = end - p
 
 loop-holds : tie.Need-loop-holds Inv-loop μ-loop
-loop-holds c = (omega arith, c .before .before .pre .ordered, more-start complex _ _ _)
+loop-holds c = (omega arith, c .before .before .pre .ordered, plus-start complex _ _ _)
 
 at-requires : tie.Need-at-requires Inv-loop μ-loop
 at-requires c κs = c .before .before .before .before .pre .left _ (omega arith)
@@ -42,7 +42,7 @@ loop-again c =
     (omega arith, omega arith, term-next complex (p .f) (now (p .a)) (now (p .b)) (p .i) (p .j) _ _ _ _ _ _ _ _ (c .before .before .before .before .before .loop .inv .0) (c .before .before .before .before .before .loop .inv .2) (c .before .before .before .at .ensures) (c .before .before .at2 .ensures) (c .before .mul .ensures) (c .add .ensures))
 
 returns : tie.Need-returns Inv-loop μ-loop
-returns c = more-end complex _ _ _ _ _ _ (c .before .loop .inv .1) (omega arith) (c .before .loop .inv .2)
+returns c = plus-end complex _ _ _ _ _ _ (c .before .loop .inv .1) (omega arith) (c .before .loop .inv .2)
 
 pub add-run-spec : {M : Type 1} → statement M
 add-run-spec =

@@ -4,7 +4,6 @@ use Rattle.number.specs.Kind.{complex}
 use Rattle.number.specs.Scaling.{scaleByComplex}
 use Rattle.number.proofs.ScalingLaws.{scale-complex}
 use Rattle.product_plan.proofs.Kernels.{gemm-refused, gemm-planned, gemm-runs, gemm-done}
-use Rattle.judge.proofs.Ops.{gemm-passes}
 use Rattle.product_complex.proofs.gemm.Statement.{statement}
 use Rattle.product_complex.proofs.gemm.Tie as tie
 
@@ -18,9 +17,7 @@ quick-gemm-requires : tie.Need-quick-gemm-requires
 quick-gemm-requires c κs = search needs
 
 check-gemm-requires : tie.Need-check-gemm-requires
-check-gemm-requires c κs h =
-    let g = c .before .before .before .before .before .before .args in
-    gemm-passes (g .ta) (g .tb) (g .va) _ (g .vb) _ (g .vc) _ _ _ (c .before .before .op-view .ensures) (c .before .op-view2 .ensures) (c .quick-gemm .ensures h)
+check-gemm-requires c κs = rw (← (c .before .before .op-view .ensures), ← (c .before .op-view2 .ensures)) (c .quick-gemm .ensures)
 
 passed-requires : tie.Need-passed-requires
 passed-requires c κs = tt

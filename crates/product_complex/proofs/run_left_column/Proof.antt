@@ -4,7 +4,7 @@ use native.Mathlib.Omega.{arith}
 use lib.ListN.{length}
 use Rattle.number.specs.Kind.{complex}
 use Rattle.number.specs.Scaling.{scaleByComplex, times}
-use Rattle.slab.specs.Update.{everywhere, rows as rowsOf}
+use Rattle.slab.specs.Update.{everywhere, updateRows}
 use Rattle.slab.proofs.LoopLaws.{rows-last}
 use Rattle.product_plan.specs.Plan.{foldedChange}
 use Rattle.product_plan.proofs.Rows.{column-next}
@@ -13,7 +13,7 @@ use Rattle.product_complex.proofs.run_left_column.Statement.{statement}
 use Rattle.product_complex.proofs.run_left_column.Tie as tie
 
 abbrev Inv-loop : tie.InvT-loop
-Inv-loop plan a b alpha beta c₀ m i₀ c i = (i ≤ m) × (length c ≡ length c₀) × (c ≡ rowsOf complex (plan .target) everywhere (foldedChange complex plan (scaleByComplex beta) (times alpha) a b) i c₀)
+Inv-loop plan a b alpha beta c₀ m i₀ c i = (i ≤ m) × (length c ≡ length c₀) × (c ≡ updateRows complex (plan .target) everywhere (foldedChange complex plan (scaleByComplex beta) (times alpha) a b) i c₀)
 
 abbrev μ-loop : tie.MeasureT-loop
 μ-loop plan a b alpha beta c₀ m i₀ c i = m - i
@@ -22,7 +22,7 @@ rows-requires : tie.Need-rows-requires Inv-loop μ-loop
 rows-requires c κs = tt
 
 loop-holds : tie.Need-loop-holds Inv-loop μ-loop
-unfolding rowsOf
+unfolding updateRows
 loop-holds c = (omega arith, refl, refl)
 
 hemv-entry-requires : tie.Need-hemv-entry-requires Inv-loop μ-loop

@@ -4,7 +4,6 @@ use Rattle.number.specs.Kind.{real32}
 use Rattle.number.specs.Scaling.{scaleBy32}
 use Rattle.number.proofs.ScalingLaws.{scale32}
 use Rattle.product_plan.proofs.Kernels.{gemv-refused, gemv-vectors, gemv-planned, gemv-runs, gemv-done}
-use Rattle.judge.proofs.Ops.{gemv-passes-op}
 use Rattle.product_real32.proofs.gemv.Statement.{statement}
 use Rattle.product_real32.proofs.gemv.Tie as tie
 
@@ -15,9 +14,7 @@ quick-gemv-requires : tie.Need-quick-gemv-requires
 quick-gemv-requires c κs = search needs
 
 check-gemv-requires : tie.Need-check-gemv-requires
-check-gemv-requires c κs h =
-    let g = c .before .before .before .before .before .args in
-    gemv-passes-op (g .trans) (g .va) _ (g .vx) _ (g .vy) _ _ (c .before .op-view .ensures) (c .quick-gemv .ensures h)
+check-gemv-requires c κs = rw (← (c .before .op-view .ensures)) (c .quick-gemv .ensures)
 
 passed-requires : tie.Need-passed-requires
 passed-requires c κs = tt

@@ -4,7 +4,7 @@ use native.Mathlib.Omega.{arith}
 use lib.ListN.{length}
 use Rattle.number.specs.Kind.{real32}
 use Rattle.number.specs.Scaling.{scaleBy32}
-use Rattle.slab.specs.Update.{everywhere, row as rowOf}
+use Rattle.slab.specs.Update.{everywhere, updateRow}
 use Rattle.slab.proofs.LoopLaws.{row-last}
 use Rattle.product_plan.specs.Plan.{foldedChange}
 use Rattle.product_plan.proofs.Rows.{row-pair, row-odd}
@@ -13,7 +13,7 @@ use Rattle.product_real32.proofs.hemm_left_row.Statement.{statement}
 use Rattle.product_real32.proofs.hemm_left_row.Tie as tie
 
 abbrev Inv-loop : tie.InvT-loop
-Inv-loop plan a b alpha beta c₀ i n pairs j₀ c j = (j ≤ pairs) × (length c ≡ length c₀) × (c ≡ rowOf real32 (plan .target) everywhere (foldedChange real32 plan (scaleBy32 beta) (real32 .mul (alpha .0)) a b) i (2 * j) c₀)
+Inv-loop plan a b alpha beta c₀ i n pairs j₀ c j = (j ≤ pairs) × (length c ≡ length c₀) × (c ≡ updateRow real32 (plan .target) everywhere (foldedChange real32 plan (scaleBy32 beta) (real32 .mul (alpha .0)) a b) i (2 * j) c₀)
 
 abbrev μ-loop : tie.MeasureT-loop
 μ-loop plan a b alpha beta c₀ i n pairs j₀ c j = pairs - j
@@ -22,7 +22,7 @@ cols-requires : tie.Need-cols-requires Inv-loop μ-loop
 cols-requires c κs = tt
 
 loop-holds : tie.Need-loop-holds Inv-loop μ-loop
-unfolding rowOf
+unfolding updateRow
 loop-holds c = (omega arith, refl, refl)
 
 mul-two-left-entries : tie.Need-mul-two-left-entries Inv-loop μ-loop

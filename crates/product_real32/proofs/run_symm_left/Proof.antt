@@ -4,7 +4,7 @@ use native.Mathlib.Omega.{arith}
 use lib.ListN.{length}
 use Rattle.number.specs.Kind.{real32}
 use Rattle.number.specs.Scaling.{scaleBy32}
-use Rattle.slab.specs.Update.{everywhere, rows as rowsOf}
+use Rattle.slab.specs.Update.{everywhere, updateRows}
 use Rattle.slab.proofs.LoopLaws.{rows-next, rows-last}
 use Rattle.product_plan.specs.Plan.{foldedChange}
 use Rattle.product_plan.proofs.Ready.{folded-kept}
@@ -12,7 +12,7 @@ use Rattle.product_real32.proofs.run_symm_left.Statement.{statement}
 use Rattle.product_real32.proofs.run_symm_left.Tie as tie
 
 abbrev Inv-loop : tie.InvT-loop
-Inv-loop plan a b alpha beta c₀ m i₀ c i = (i ≤ m) × (length c ≡ length c₀) × (c ≡ rowsOf real32 (plan .target) everywhere (foldedChange real32 plan (scaleBy32 beta) (real32 .mul (alpha .0)) a b) i c₀)
+Inv-loop plan a b alpha beta c₀ m i₀ c i = (i ≤ m) × (length c ≡ length c₀) × (c ≡ updateRows real32 (plan .target) everywhere (foldedChange real32 plan (scaleBy32 beta) (real32 .mul (alpha .0)) a b) i c₀)
 
 abbrev μ-loop : tie.MeasureT-loop
 μ-loop plan a b alpha beta c₀ m i₀ c i = m - i
@@ -21,7 +21,7 @@ rows-requires : tie.Need-rows-requires Inv-loop μ-loop
 rows-requires c κs = tt
 
 loop-holds : tie.Need-loop-holds Inv-loop μ-loop
-unfolding rowsOf
+unfolding updateRows
 loop-holds c = (omega arith, refl, refl)
 
 symm-left-row-requires : tie.Need-symm-left-row-requires Inv-loop μ-loop

@@ -5,7 +5,7 @@ use lib.ListN.{length}
 use Rattle.number.specs.Kind.{real32}
 use Rattle.number.specs.Scaling.{scaleBy32}
 use Rattle.view.specs.Triangle.{inTriangle}
-use Rattle.slab.specs.Update.{rows as rowsOf}
+use Rattle.slab.specs.Update.{updateRows}
 use Rattle.slab.proofs.LoopLaws.{rows-next, rows-last}
 use Rattle.product_plan.specs.Plan.{planChange}
 use Rattle.product_plan.proofs.Ready.{ready-kept}
@@ -13,7 +13,7 @@ use Rattle.product_real32.proofs.run_syrk.Statement.{statement}
 use Rattle.product_real32.proofs.run_syrk.Tie as tie
 
 abbrev Inv-loop : tie.InvT-loop
-Inv-loop uplo plan a b alpha beta c₀ m i₀ c i = (i ≤ m) × (length c ≡ length c₀) × (c ≡ rowsOf real32 (plan .target) (inTriangle uplo) (planChange real32 plan (scaleBy32 beta) (real32 .mul (alpha .0)) a b) i c₀)
+Inv-loop uplo plan a b alpha beta c₀ m i₀ c i = (i ≤ m) × (length c ≡ length c₀) × (c ≡ updateRows real32 (plan .target) (inTriangle uplo) (planChange real32 plan (scaleBy32 beta) (real32 .mul (alpha .0)) a b) i c₀)
 
 abbrev μ-loop : tie.MeasureT-loop
 μ-loop uplo plan a b alpha beta c₀ m i₀ c i = m - i
@@ -22,7 +22,7 @@ rows-requires : tie.Need-rows-requires Inv-loop μ-loop
 rows-requires c κs = tt
 
 loop-holds : tie.Need-loop-holds Inv-loop μ-loop
-unfolding rowsOf
+unfolding updateRows
 loop-holds c = (omega arith, refl, refl)
 
 syrk-row-requires : tie.Need-syrk-row-requires Inv-loop μ-loop

@@ -4,20 +4,20 @@ use native.Mathlib.Omega.{arith}
 use lib.Ieee.{binary64}
 use denote.Ref.{now}
 use Rattle.number.specs.Kind.{real64}
-use Rattle.slab.specs.Run.{more}
+use Rattle.slab.specs.Run.{plusTerms}
 use Rattle.product_plan.specs.Plan.{term}
-use Rattle.product_plan.proofs.Sums.{more-start, more-end, real-next}
+use Rattle.product_plan.proofs.Sums.{plus-start, plus-end, real-next}
 use Rattle.product_real64.proofs.add_run.Statement.{statement}
 use Rattle.product_real64.proofs.add_run.Tie as tie
 
 abbrev Inv-loop : tie.InvT-loop
-Inv-loop f a b i j from end total₀ p₀ total p = (from ≤ p) × (p ≤ end) × (total .0 ≡ more real64 (total₀ .0) (term real64 f a b i j) from (p - from))
+Inv-loop f a b i j from end total₀ p₀ total p = (from ≤ p) × (p ≤ end) × (total .0 ≡ plusTerms real64 (total₀ .0) (term real64 f a b i j) from (p - from))
 
 abbrev μ-loop : tie.MeasureT-loop
 μ-loop f a b i j from end total₀ p₀ total p = end - p
 
 loop-holds : tie.Need-loop-holds Inv-loop μ-loop
-loop-holds c = (omega arith, c .before .before .pre .ordered, more-start real64 _ _ _)
+loop-holds c = (omega arith, c .before .before .pre .ordered, plus-start real64 _ _ _)
 
 elem64-requires : tie.Need-elem64-requires Inv-loop μ-loop
 elem64-requires c κs = c .before .before .before .before .pre .left _ (omega arith)
@@ -43,7 +43,7 @@ loop-again c =
     (omega arith, omega arith, real-next binary64 (p .f) (now (p .a)) (now (p .b)) (p .i) (p .j) _ _ _ _ _ _ _ _ (c .before .before .before .before .before .loop .inv .0) (c .before .before .before .before .before .loop .inv .2) (c .before .before .before .elem64 .ensures) (c .before .before .elem642 .ensures) (c .before .mul .ensures) (c .add .ensures))
 
 returns : tie.Need-returns Inv-loop μ-loop
-returns c = more-end real64 _ _ _ _ _ _ (c .before .loop .inv .1) (omega arith) (c .before .loop .inv .2)
+returns c = plus-end real64 _ _ _ _ _ _ (c .before .loop .inv .1) (omega arith) (c .before .loop .inv .2)
 
 pub add-run-spec : {M : Type 1} → statement M
 add-run-spec =

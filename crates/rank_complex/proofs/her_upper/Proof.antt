@@ -6,7 +6,7 @@ use Rattle.number.specs.Kind.{complex}
 use Rattle.view.specs.declared.UpLo.the-variants.{Upper}
 use Rattle.view.specs.Triangle.{inTriangle}
 use Rattle.slab.specs.Elem.{elem}
-use Rattle.slab.specs.Update.{rows as rowsOf}
+use Rattle.slab.specs.Update.{updateRows}
 use Rattle.slab.proofs.LoopLaws.{rows-next, rows-last}
 use Rattle.blas.specs.Her.{herChange}
 use Rattle.rank_plan.proofs.Inside.{one-kept}
@@ -15,7 +15,7 @@ use Rattle.rank_complex.proofs.her_upper.Statement.{statement}
 use Rattle.rank_complex.proofs.her_upper.Tie as tie
 
 abbrev Inv-loop : tie.InvT-loop
-Inv-loop alpha x vx a₀ va m down diagonal own₀ t₀ i₀ a own t i = (i ≤ m) × (length a ≡ length a₀) × Down Upper vx va i own t × (a ≡ rowsOf complex va (inTriangle Upper) (herChange complex alpha (elem complex x vx)) i a₀)
+Inv-loop alpha x vx a₀ va m down diagonal own₀ t₀ i₀ a own t i = (i ≤ m) × (length a ≡ length a₀) × Down Upper vx va i own t × (a ≡ updateRows complex va (inTriangle Upper) (herChange complex alpha (elem complex x vx)) i a₀)
 
 abbrev μ-loop : tie.MeasureT-loop
 μ-loop alpha x vx a₀ va m down diagonal own₀ t₀ i₀ a own t i = m - i
@@ -30,7 +30,7 @@ diagonal-step-requires : tie.Need-diagonal-step-requires Inv-loop μ-loop
 diagonal-step-requires c κs = tt
 
 loop-holds : tie.Need-loop-holds Inv-loop μ-loop
-unfolding rowsOf
+unfolding updateRows
 loop-holds c = let s = c .before .before .before .before .before in (omega arith, refl, down-start (s .pre .x) (s .pre .target) (omega arith) (omega arith) Upper, refl)
 
 sub-her-row : tie.Need-sub-her-row Inv-loop μ-loop

@@ -5,7 +5,7 @@ use lib.ListN.{length}
 use Rattle.number.specs.Kind.{real32}
 use Rattle.number.specs.Scaling.{scaleBy32}
 use Rattle.view.specs.Triangle.{inTriangle}
-use Rattle.slab.specs.Update.{rows as rowsOf}
+use Rattle.slab.specs.Update.{updateRows}
 use Rattle.slab.proofs.LoopLaws.{rows-next, rows-last}
 use Rattle.rank_plan.specs.Change.{her2kChange}
 use Rattle.rank_plan.proofs.Inside.{paired-kept}
@@ -13,7 +13,7 @@ use Rattle.rank_real32.proofs.her2k_rows.Statement.{statement}
 use Rattle.rank_real32.proofs.her2k_rows.Tie as tie
 
 abbrev Inv-loop : tie.InvT-loop
-Inv-loop alpha beta plan a b c₀ m i₀ c i = (i ≤ m) × (length c ≡ length c₀) × (c ≡ rowsOf real32 (plan .target) (inTriangle (plan .uplo)) (her2kChange real32 plan a b (alpha .0) (scaleBy32 beta)) i c₀)
+Inv-loop alpha beta plan a b c₀ m i₀ c i = (i ≤ m) × (length c ≡ length c₀) × (c ≡ updateRows real32 (plan .target) (inTriangle (plan .uplo)) (her2kChange real32 plan a b (alpha .0) (scaleBy32 beta)) i c₀)
 
 abbrev μ-loop : tie.MeasureT-loop
 μ-loop alpha beta plan a b c₀ m i₀ c i = m - i
@@ -22,7 +22,7 @@ rows-requires : tie.Need-rows-requires Inv-loop μ-loop
 rows-requires c κs = tt
 
 loop-holds : tie.Need-loop-holds Inv-loop μ-loop
-unfolding rowsOf
+unfolding updateRows
 loop-holds c = (omega arith, refl, refl)
 
 her2k-row-requires : tie.Need-her2k-row-requires Inv-loop μ-loop

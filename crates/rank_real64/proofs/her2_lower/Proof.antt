@@ -6,7 +6,7 @@ use Rattle.number.specs.Kind.{real64}
 use Rattle.view.specs.declared.UpLo.the-variants.{Lower}
 use Rattle.view.specs.Triangle.{inTriangle}
 use Rattle.slab.specs.Elem.{elem}
-use Rattle.slab.specs.Update.{rows as rowsOf}
+use Rattle.slab.specs.Update.{updateRows}
 use Rattle.slab.proofs.LoopLaws.{rows-next, rows-last}
 use Rattle.blas.specs.Her2.{her2Change}
 use Rattle.rank_plan.proofs.Inside.{two-kept}
@@ -15,7 +15,7 @@ use Rattle.rank_real64.proofs.her2_lower.Statement.{statement}
 use Rattle.rank_real64.proofs.her2_lower.Tie as tie
 
 abbrev Inv-loop : tie.InvT-loop
-Inv-loop alpha x vx y vy a₀ va m downx downy fall ownx₀ owny₀ t₀ i₀ a ownx owny t i = (i ≤ m) × (length a ≡ length a₀) × Down Lower vx va i ownx t × Down Lower vy va i owny t × (a ≡ rowsOf real64 va (inTriangle Lower) (her2Change real64 (alpha .0) (elem real64 x vx) (elem real64 y vy)) i a₀)
+Inv-loop alpha x vx y vy a₀ va m downx downy fall ownx₀ owny₀ t₀ i₀ a ownx owny t i = (i ≤ m) × (length a ≡ length a₀) × Down Lower vx va i ownx t × Down Lower vy va i owny t × (a ≡ updateRows real64 va (inTriangle Lower) (her2Change real64 (alpha .0) (elem real64 x vx) (elem real64 y vy)) i a₀)
 
 abbrev μ-loop : tie.MeasureT-loop
 μ-loop alpha x vx y vy a₀ va m downx downy fall ownx₀ owny₀ t₀ i₀ a ownx owny t i = m - i
@@ -33,7 +33,7 @@ row-step-requires-3 : tie.Need-row-step-requires-3 Inv-loop μ-loop
 row-step-requires-3 c κs = tt
 
 loop-holds : tie.Need-loop-holds Inv-loop μ-loop
-unfolding rowsOf
+unfolding updateRows
 loop-holds c = let s = c .before .before .before .before .before .before .before in (omega arith, refl, down-start (s .pre .x) (s .pre .target) (omega arith) (omega arith) Lower, down-start (s .pre .y) (s .pre .target) (omega arith) (omega arith) Lower, refl)
 
 add-her2-row : tie.Need-add-her2-row Inv-loop μ-loop

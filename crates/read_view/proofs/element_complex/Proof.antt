@@ -5,8 +5,7 @@ use contract.Running.{givenOf, tables, tablesOf}
 use denote.Enum.Laws as EL
 use denote.Triple.Spec.{tripleOf}
 use denote.Triple.Table.{entered, cited}
-use Rattle.read_view.specs.Read.{readAt}
-use Rattle.read_view.specs.declared.FoundComplex.the-variants.{Number, Refused}
+use Rattle.read_view.specs.Read.{foundComplexOutcome, readOutcome}
 use Rattle.read_view.proofs.FoundComplex as S
 use Rattle.read_view.proofs.FoundComplex.Laws as S′
 use Rattle.read_view.proofs.Through.{through-meets}
@@ -26,7 +25,7 @@ unfolding code.routine tablesOf
 element-complex-spec 𝓤 H 𝓜 𝓖 𝓡 =
     entered 𝓤 H (tripleOf 𝓤 H (𝓖 .A) element.signature (element.spec 𝓤 H (𝓖 .A) (𝓜 .mem) (𝓡 .run)))
     (tables 𝓤 H 𝓜 𝓡 code.env .C) (tables 𝓤 H 𝓜 𝓡 code.env .Λ) element-key.name code.function (code.unfolded 𝓤 H 𝓜 𝓡)
-    (through-meets get-def.name S.the-row S′.mir (readAt complex Number Refused) 𝓤 H (𝓖 .A) (givenOf 𝓤 H 𝓜 𝓖)
+    (through-meets get-def.name S.the-row S′.mir foundComplexOutcome (readOutcome complex) 𝓤 H (𝓖 .A) (givenOf 𝓤 H 𝓜 𝓖)
     (λ r u is. EL.lawful S.the-type S′.the-laws 𝓤 H (𝓖 .A) (givenOf 𝓤 H 𝓜 𝓖) tt .typed r _ is .0) (𝓜 .mem) (𝓡 .run) (λ κs a. element.clauses 𝓤 H (𝓖 .A) (𝓜 .mem) (𝓡 .run) κs a .ensures tt) (λ κs a r e. refl) (tablesOf 𝓤 H 𝓜 (tables 𝓤 H 𝓜 𝓡 code.env))
     (cited 𝓤 H (tripleOf 𝓤 H (𝓖 .A) new.signature (new.spec 𝓤 H (𝓖 .A) (𝓜 .mem) (𝓡 .run))) 𝓜 𝓡 code.env new-def.name new-def.routine code.calls-read-view·ReadView·new (new-thm.met 𝓤 H 𝓜 𝓖 𝓡))
     (cited 𝓤 H (tripleOf 𝓤 H (𝓖 .A) get.signature (get.spec 𝓤 H (𝓖 .A) (𝓜 .mem) (𝓡 .run))) 𝓜 𝓡 code.env get-def.name get-def.routine code.calls-read-view·ReadView·get-complex (get-thm.met 𝓤 H 𝓜 𝓖 𝓡)))

@@ -3,7 +3,7 @@ use native.Mathlib.Omega.{arith}
 use borrow.Author.Needs.{needs}
 use denote.Ref.{now}
 use Rattle.number.specs.Kind.{real64}
-use Rattle.read_view.specs.declared.Found.the-variants.{Number, Refused}
+use Rattle.read_view.specs.Read.{foundElement, refusedRead}
 use Rattle.read_view.proofs.Answers.{shown, in-slab, found-number, found-refusal}
 use Rattle.read_view.proofs.find.Statement.{statement}
 use Rattle.read_view.proofs.find.Tie as tie
@@ -23,13 +23,13 @@ get64-requires c κs = omega (arith, in-slab _ _ _ _ _ _ (c .before .before .bef
 returns : tie.Need-returns
 returns c =
     let a = c .before .before .before .before .before .before .args in
-    found-number real64 Number Refused (now (a .s)) (a .v) (a .r) (a .c) _ _ (c .before .before .before .before .answer .ensures) (c .before .before .before .passed .ensures)
+    found-number real64 (foundElement real64) (refusedRead real64) (now (a .s)) (a .v) (a .r) (a .c) _ _ (c .before .before .before .before .answer .ensures) (c .before .before .before .passed .ensures)
     (c .before .before .if1 .taken) _ _ (c .before .place .ensures) (c .get64 .ensures)
 
 returns-2 : tie.Need-returns-2
 returns-2 c =
     let a = c .before .before .before .before .args in
-    found-refusal real64 Number Refused (now (a .s)) (a .v) (a .r) (a .c) _ _ (c .before .before .answer .ensures) (c .before .passed .ensures) (c .if1 .left)
+    found-refusal real64 (foundElement real64) (refusedRead real64) (now (a .s)) (a .v) (a .r) (a .c) _ _ (c .before .before .answer .ensures) (c .before .passed .ensures) (c .if1 .left)
 
 pub find-spec : {M : Type 1} → statement M
 find-spec = tie.close (tie.spec answer-requires passed-requires place-requires get64-requires returns returns-2)

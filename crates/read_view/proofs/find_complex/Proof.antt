@@ -3,7 +3,7 @@ use native.Mathlib.Omega.{arith}
 use borrow.Author.Needs.{needs}
 use denote.Ref.{now}
 use Rattle.number.specs.Kind.{complex}
-use Rattle.read_view.specs.declared.FoundComplex.the-variants.{Number, Refused}
+use Rattle.read_view.specs.Read.{foundElement, refusedRead}
 use Rattle.read_view.proofs.Answers.{shown, in-slab, found-number, found-refusal}
 use Rattle.read_view.proofs.find_complex.Statement.{statement}
 use Rattle.read_view.proofs.find_complex.Tie as tie
@@ -23,13 +23,13 @@ get-complex-requires c κs = omega (arith, in-slab _ _ _ _ _ _ (c .before .befor
 returns : tie.Need-returns
 returns c =
     let a = c .before .before .before .before .before .before .args in
-    found-number complex Number Refused (now (a .s)) (a .v) (a .r) (a .c) _ _ (c .before .before .before .before .answer .ensures) (c .before .before .before .passed .ensures)
+    found-number complex (foundElement complex) (refusedRead complex) (now (a .s)) (a .v) (a .r) (a .c) _ _ (c .before .before .before .before .answer .ensures) (c .before .before .before .passed .ensures)
     (c .before .before .if1 .taken) _ _ (c .before .place .ensures) (c .get-complex .ensures)
 
 returns-2 : tie.Need-returns-2
 returns-2 c =
     let a = c .before .before .before .before .args in
-    found-refusal complex Number Refused (now (a .s)) (a .v) (a .r) (a .c) _ _ (c .before .before .answer .ensures) (c .before .passed .ensures) (c .if1 .left)
+    found-refusal complex (foundElement complex) (refusedRead complex) (now (a .s)) (a .v) (a .r) (a .c) _ _ (c .before .before .answer .ensures) (c .before .passed .ensures) (c .if1 .left)
 
 pub find-complex-spec : {M : Type 1} → statement M
 find-complex-spec = tie.close (tie.spec answer-requires passed-requires place-requires get-complex-requires returns returns-2)

@@ -4,20 +4,20 @@ use native.Mathlib.Omega.{arith}
 use denote.Ref.{now}
 use Rattle.number.specs.Kind.{complex}
 use Rattle.slab.specs.Elem.{elem}
-use Rattle.slab.specs.Run.{plain, more}
-use Rattle.slab.proofs.RunLaws.{more-start, more-end, more-next}
+use Rattle.slab.specs.Run.{elemConj, plusTerms}
+use Rattle.slab.proofs.RunLaws.{plus-start, plus-end, plus-next}
 use Rattle.order.proofs.Systems.{weighed}
 use Rattle.triangle_complex.proofs.add_run.Statement.{statement}
 use Rattle.triangle_complex.proofs.add_run.Tie as tie
 
 abbrev Inv-loop : tie.InvT-loop
-Inv-loop conjugated a va b vb q l from n sum₀ i₀ sum i = (i ≤ n) × (sum ≡ more complex sum₀ (λ p. complex .mul (plain complex conjugated a va q p) (elem complex b vb p l)) from i)
+Inv-loop conjugated a va b vb q l from n sum₀ i₀ sum i = (i ≤ n) × (sum ≡ plusTerms complex sum₀ (λ p. complex .mul (elemConj complex conjugated a va q p) (elem complex b vb p l)) from i)
 
 abbrev μ-loop : tie.MeasureT-loop
 μ-loop conjugated a va b vb q l from n sum₀ i₀ sum i = n - i
 
 loop-holds : tie.Need-loop-holds Inv-loop μ-loop
-loop-holds c = (omega arith, more-start complex _ _ _)
+loop-holds c = (omega arith, plus-start complex _ _ _)
 
 add-p : tie.Need-add-p Inv-loop μ-loop
 add-p c = let h = c .before .before .before .before .pre .left (c .before .loop .i) (omega arith) in omega (arith, h .col, h .fits .cols-le)
@@ -43,10 +43,10 @@ loop-less c = omega arith
 loop-again : tie.Need-loop-again Inv-loop μ-loop
 loop-again c =
     let p = c .before .before .before .before .before .before .before .before .args in
-    (omega arith, more-next complex (λ k. complex .mul (plain complex (p .conjugated) (now (p .a)) (p .va) (p .q) k) (elem complex (now (p .b)) (p .vb) k (p .l))) _ _ _ _ _ _ (c .before .before .before .before .before .loop .inv .1) (weighed complex _ _ _ _ _ (c .before .before .before .at .ensures) (c .before .before .elem-complex .ensures) (c .before .mul .ensures)) (c .add .ensures))
+    (omega arith, plus-next complex (λ k. complex .mul (elemConj complex (p .conjugated) (now (p .a)) (p .va) (p .q) k) (elem complex (now (p .b)) (p .vb) k (p .l))) _ _ _ _ _ _ (c .before .before .before .before .before .loop .inv .1) (weighed complex _ _ _ _ _ (c .before .before .before .at .ensures) (c .before .before .elem-complex .ensures) (c .before .mul .ensures)) (c .add .ensures))
 
 returns : tie.Need-returns Inv-loop μ-loop
-returns c = more-end complex _ _ _ _ _ _ (c .before .loop .inv .0) (omega arith) (c .before .loop .inv .1)
+returns c = plus-end complex _ _ _ _ _ _ (c .before .loop .inv .0) (omega arith) (c .before .loop .inv .1)
 
 pub add-run-spec : {M : Type 1} → statement M
 add-run-spec =

@@ -3,21 +3,21 @@ use mathlib.Core.Path.{_≡_, sym}
 use native.Mathlib.Omega.{arith}
 use Rattle.number.specs.Kind.{complex}
 use Rattle.slab.specs.Elem.{elem}
-use Rattle.slab.specs.Run.{plain}
-use Rattle.blas.specs.Substitution.{less}
-use Rattle.blas.proofs.SubstitutionLaws.{less-start, less-next, less-end}
+use Rattle.slab.specs.Run.{elemConj}
+use Rattle.blas.specs.Substitution.{minusTerms}
+use Rattle.blas.proofs.SubstitutionLaws.{minus-start, minus-next, minus-end}
 use Rattle.order.proofs.Systems.{weighed}
 use Rattle.triangle_complex.proofs.reduce.Statement.{statement}
 use Rattle.triangle_complex.proofs.reduce.Tie as tie
 
 abbrev Inv-loop : tie.InvT-loop
-Inv-loop conjugated a va b vb q l from n rest₀ i₀ rest i = (i ≤ n) × (rest ≡ less complex rest₀ (λ p. complex .mul (plain complex conjugated a va q p) (elem complex b vb p l)) from i)
+Inv-loop conjugated a va b vb q l from n rest₀ i₀ rest i = (i ≤ n) × (rest ≡ minusTerms complex rest₀ (λ p. complex .mul (elemConj complex conjugated a va q p) (elem complex b vb p l)) from i)
 
 abbrev μ-loop : tie.MeasureT-loop
 μ-loop conjugated a va b vb q l from n rest₀ i₀ rest i = n - i
 
 loop-holds : tie.Need-loop-holds Inv-loop μ-loop
-loop-holds c = (omega arith, sym (less-start complex _ _ _))
+loop-holds c = (omega arith, sym (minus-start complex _ _ _))
 
 add-p : tie.Need-add-p Inv-loop μ-loop
 add-p c = let h = c .before .before .before .before .pre .left (c .before .loop .i) (omega arith) in omega (arith, h .col, h .fits .cols-le)
@@ -41,10 +41,10 @@ loop-less : tie.Need-loop-less Inv-loop μ-loop
 loop-less c = omega arith
 
 loop-again : tie.Need-loop-again Inv-loop μ-loop
-loop-again c = (omega arith, less-next complex _ _ _ _ _ _ _ (c .before .before .before .before .before .loop .inv .1) (weighed complex _ _ _ _ _ (c .before .before .before .at .ensures) (c .before .before .elem-complex .ensures) (c .before .mul .ensures)) (c .sub .ensures))
+loop-again c = (omega arith, minus-next complex _ _ _ _ _ _ _ (c .before .before .before .before .before .loop .inv .1) (weighed complex _ _ _ _ _ (c .before .before .before .at .ensures) (c .before .before .elem-complex .ensures) (c .before .mul .ensures)) (c .sub .ensures))
 
 returns : tie.Need-returns Inv-loop μ-loop
-returns c = less-end complex _ _ _ _ _ _ (c .before .loop .inv .0) (omega arith) (c .before .loop .inv .1)
+returns c = minus-end complex _ _ _ _ _ _ (c .before .loop .inv .0) (omega arith) (c .before .loop .inv .1)
 
 pub reduce-spec : {M : Type 1} → statement M
 reduce-spec =

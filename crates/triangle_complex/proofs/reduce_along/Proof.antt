@@ -5,16 +5,16 @@ use native.Mathlib.Omega.{arith}
 use Rattle.number.specs.Kind.{complex}
 use Rattle.view.specs.Place.{index}
 use Rattle.slab.specs.Elem.{elem}
-use Rattle.slab.specs.Run.{plain}
-use Rattle.blas.specs.Substitution.{less}
-use Rattle.blas.proofs.SubstitutionLaws.{less-start, less-next, less-end}
+use Rattle.slab.specs.Run.{elemConj}
+use Rattle.blas.specs.Substitution.{minusTerms}
+use Rattle.blas.proofs.SubstitutionLaws.{minus-start, minus-next, minus-end}
 use Rattle.order.proofs.PlaceLaws.{next-coefficient, next-unknown, to-start}
 use Rattle.triangle_complex.proofs.reduce_along.Statement.{statement}
 use Rattle.triangle_complex.proofs.reduce_along.Tie as tie
 
 abbrev Inv-loop : tie.InvT-loop
 Inv-loop conjugated a va b vb q from n first solved along down rest₀ c₀ u₀ i₀ rest c u i =
-    (i ≤ n) × (rest ≡ less complex rest₀ (λ p. complex .mul (plain complex conjugated a va q p) (elem complex b vb p 0)) from i) × (i < n → c ≡ index va q (from + i)) × (i < n → u ≡ index vb (from + i) 0)
+    (i ≤ n) × (rest ≡ minusTerms complex rest₀ (λ p. complex .mul (elemConj complex conjugated a va q p) (elem complex b vb p 0)) from i) × (i < n → c ≡ index va q (from + i)) × (i < n → u ≡ index vb (from + i) 0)
 
 abbrev μ-loop : tie.MeasureT-loop
 μ-loop conjugated a va b vb q from n first solved along down rest₀ c₀ u₀ i₀ rest c u i = n - i
@@ -29,7 +29,7 @@ loop-holds : tie.Need-loop-holds Inv-loop μ-loop
 loop-holds c =
     let g = c .before .before .before .before .args in
     let p = c .before .before .before .before .pre .1 in
-    (omega arith, sym (less-start complex _ _ _), λ h. to-start (g .from) (λ k. g .first ≡ index (g .va) (g .q) k) (p .coefficient h), λ h. to-start (g .from) (λ k. g .solved ≡ index (g .vb) k 0) (p .unknown h))
+    (omega arith, sym (minus-start complex _ _ _), λ h. to-start (g .from) (λ k. g .first ≡ index (g .va) (g .q) k) (p .coefficient h), λ h. to-start (g .from) (λ k. g .solved ≡ index (g .vb) k 0) (p .unknown h))
 
 add-less-at : tie.Need-add-less-at Inv-loop μ-loop
 add-less-at c = let h = c .before .before .before .before .before .before .pre .0 .left (c .before .loop .i) (omega arith) in omega (arith, h .col, h .fits .cols-le)
@@ -59,13 +59,13 @@ loop-again c =
     let small-a : complex .count (now (g .args .a)) ≤ 2 ^ 63 = omega (arith, g .good .1 .0) in
     let small-b : complex .count (now (g .args .b)) ≤ 2 ^ 63 = omega (arith, g .good .1 .1 .1 .0) in (
       omega arith,
-      less-next complex _ _ _ _ _ _ _ (i .inv .1) refl (c .before .before .less-at .ensures),
+      minus-next complex _ _ _ _ _ _ _ (i .inv .1) refl (c .before .before .less-at .ensures),
       λ h. next-coefficient _ _ _ _ _ _ _ _ small-a small-b (g .pre .0) h _ _ _ (i .inv .2 (omega arith)) (c .before .before .before .before .before .before .col-step .ensures) (c .before .wrapping-add-usize .ensures),
       λ h. next-unknown _ _ _ _ _ _ _ _ small-a small-b (g .pre .0) h _ _ _ (i .inv .3 (omega arith)) (c .before .before .before .before .before .row-step .ensures) (c .wrapping-add-usize2 .ensures),
     )
 
 returns : tie.Need-returns Inv-loop μ-loop
-returns c = less-end complex _ _ _ _ _ _ (c .before .loop .inv .0) (omega arith) (c .before .loop .inv .1)
+returns c = minus-end complex _ _ _ _ _ _ (c .before .loop .inv .0) (omega arith) (c .before .loop .inv .1)
 
 pub reduce-along-spec : {M : Type 1} → statement M
 reduce-along-spec =

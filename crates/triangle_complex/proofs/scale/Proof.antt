@@ -1,5 +1,5 @@
 use Rattle.slab.proofs.LoopLaws.{rows-next, rows-last}
-use Rattle.slab.specs.Update.{rows as rowsOf, everywhere}
+use Rattle.slab.specs.Update.{updateRows, everywhere}
 use Rattle.number.specs.Kind.{complex}
 use borrow.Author.Needs.{needs}
 use lib.ListN.{length}
@@ -11,7 +11,7 @@ use Rattle.triangle_complex.proofs.scale.Statement.{statement}
 use Rattle.triangle_complex.proofs.scale.Tie as tie
 
 abbrev Inv-loop : tie.InvT-loop
-Inv-loop alpha b₀ vb m i₀ b i = (i ≤ m) × (length b ≡ length b₀) × (b ≡ rowsOf complex vb everywhere (λ i j x. complex .mul alpha x) i b₀)
+Inv-loop alpha b₀ vb m i₀ b i = (i ≤ m) × (length b ≡ length b₀) × (b ≡ updateRows complex vb everywhere (λ i j x. complex .mul alpha x) i b₀)
 
 abbrev μ-loop : tie.MeasureT-loop
 μ-loop alpha b₀ vb m i₀ b i = m - i
@@ -20,7 +20,7 @@ rows-requires : tie.Need-rows-requires Inv-loop μ-loop
 rows-requires c κs = search needs
 
 loop-holds : tie.Need-loop-holds Inv-loop μ-loop
-unfolding rowsOf
+unfolding updateRows
 loop-holds c = (omega arith, refl, refl)
 
 scale-row-requires : tie.Need-scale-row-requires Inv-loop μ-loop

@@ -5,14 +5,14 @@ use lib.ListN.{length}
 use Rattle.number.specs.Kind.{complex}
 use Rattle.order.specs.Walk.{walk}
 use Rattle.order.specs.Triangles.{timesIf}
-use Rattle.order.specs.Solve.{solveOne}
+use Rattle.order.specs.Solve.{solveUnknown}
 use Rattle.order.proofs.WalkLaws.{walk-start, walk-next, walk-end}
 use Rattle.order.proofs.Systems.{ready-for}
 use Rattle.triangle_complex.proofs.solve_across.Statement.{statement}
 use Rattle.triangle_complex.proofs.solve_across.Tie as tie
 
 abbrev Inv-loop : tie.InvT-loop
-Inv-loop sys times alpha a b₀ n k l₀ b l = (l ≤ n) × (length b ≡ length b₀) × (b ≡ walk l (λ j. solveOne complex sys (timesIf complex times alpha) a k j) b₀)
+Inv-loop sys times alpha a b₀ n k l₀ b l = (l ≤ n) × (length b ≡ length b₀) × (b ≡ walk l (λ j. solveUnknown complex sys (timesIf complex times alpha) a k j) b₀)
 
 abbrev μ-loop : tie.MeasureT-loop
 μ-loop sys times alpha a b₀ n k l₀ b l = n - l

@@ -4,14 +4,14 @@ use native.Mathlib.Omega.{arith}
 use lib.ListN.{length}
 use Rattle.number.specs.Kind.{real32}
 use Rattle.order.specs.Walk.{walk}
-use Rattle.order.specs.Solve.{solveOne}
+use Rattle.order.specs.Solve.{solveUnknown}
 use Rattle.order.proofs.WalkLaws.{walk-start, walk-next, walk-end}
 use Rattle.order.proofs.Systems.{ready-for}
 use Rattle.triangle_real32.proofs.left_begin.Statement.{statement}
 use Rattle.triangle_real32.proofs.left_begin.Tie as tie
 
 abbrev Inv-loop : tie.InvT-loop
-Inv-loop sys alpha a b₀ n l₀ b l = (l ≤ n) × (length b ≡ length b₀) × (b ≡ walk l (λ j. solveOne real32 sys (real32 .mul (alpha .0)) a 0 j) b₀)
+Inv-loop sys alpha a b₀ n l₀ b l = (l ≤ n) × (length b ≡ length b₀) × (b ≡ walk l (λ j. solveUnknown real32 sys (real32 .mul (alpha .0)) a 0 j) b₀)
 
 abbrev μ-loop : tie.MeasureT-loop
 μ-loop sys alpha a b₀ n l₀ b l = n - l

@@ -3,20 +3,20 @@ use mathlib.Core.Path.{_≡_, sym}
 use native.Mathlib.Omega.{arith}
 use Rattle.number.specs.Kind.{real32}
 use Rattle.slab.specs.Elem.{elem}
-use Rattle.slab.specs.Run.{plain}
-use Rattle.blas.specs.Substitution.{less}
-use Rattle.blas.proofs.SubstitutionLaws.{less-start, less-two, less-odd, less-end}
+use Rattle.slab.specs.Run.{elemConj}
+use Rattle.blas.specs.Substitution.{minusTerms}
+use Rattle.blas.proofs.SubstitutionLaws.{minus-start, minus-two, minus-odd, minus-end}
 use Rattle.triangle_real32.proofs.reduce.Statement.{statement}
 use Rattle.triangle_real32.proofs.reduce.Tie as tie
 
 abbrev Inv-loop : tie.InvT-loop
-Inv-loop conjugated a va b vb q l from n x pairs rest₀ i₀ rest i = (i ≤ pairs) × (rest ≡ less real32 x (λ p. real32 .mul (plain real32 conjugated a va q p) (elem real32 b vb p l)) from (2 * i))
+Inv-loop conjugated a va b vb q l from n x pairs rest₀ i₀ rest i = (i ≤ pairs) × (rest ≡ minusTerms real32 x (λ p. real32 .mul (elemConj real32 conjugated a va q p) (elem real32 b vb p l)) from (2 * i))
 
 abbrev μ-loop : tie.MeasureT-loop
 μ-loop conjugated a va b vb q l from n x pairs rest₀ i₀ rest i = pairs - i
 
 loop-holds : tie.Need-loop-holds Inv-loop μ-loop
-loop-holds c = (omega arith, sym (less-start real32 _ _ _))
+loop-holds c = (omega arith, sym (minus-start real32 _ _ _))
 
 mul-k : tie.Need-mul-k Inv-loop μ-loop
 mul-k c = let h = c .before .before .before .before .pre .left (2 * c .before .loop .i) (omega arith) in omega (arith, h .col, h .fits .cols-le)
@@ -43,7 +43,7 @@ loop-less : tie.Need-loop-less Inv-loop μ-loop
 loop-less c = omega arith
 
 loop-again : tie.Need-loop-again Inv-loop μ-loop
-loop-again c = (omega arith, less-two real32 _ _ _ _ _ _ _ (c .before .before .before .loop .inv .1) (c .before .less-term .ensures) (c .less-term2 .ensures))
+loop-again c = (omega arith, minus-two real32 _ _ _ _ _ _ _ (c .before .before .before .loop .inv .1) (c .before .less-term .ensures) (c .less-term2 .ensures))
 
 mul-if1 : tie.Need-mul-if1 Inv-loop μ-loop
 mul-if1 c = omega arith
@@ -58,10 +58,10 @@ less-term-requires-3 : tie.Need-less-term-requires-3 Inv-loop μ-loop
 less-term-requires-3 c κs = let h = c .before .before .before .before .before .pre in (h .left _ (omega arith), h .right _ (omega arith))
 
 returns : tie.Need-returns Inv-loop μ-loop
-returns c = less-odd real32 _ _ _ _ _ _ _ (omega arith) (c .before .before .before .loop .inv .1) (c .less-term3 .ensures)
+returns c = minus-odd real32 _ _ _ _ _ _ _ (omega arith) (c .before .before .before .loop .inv .1) (c .less-term3 .ensures)
 
 returns-2 : tie.Need-returns-2 Inv-loop μ-loop
-returns-2 c = less-end real32 _ _ _ _ _ _ (omega arith) (omega arith) (c .before .before .loop .inv .1)
+returns-2 c = minus-end real32 _ _ _ _ _ _ (omega arith) (omega arith) (c .before .before .loop .inv .1)
 
 pub reduce-spec : {M : Type 1} → statement M
 reduce-spec =

@@ -2,7 +2,7 @@ use mathlib.Core.Path.{ap, _∙_}
 use denote.Ref.{now}
 use native.Mathlib.Omega.{arith}
 use Rattle.number.specs.Kind.{real32}
-use Rattle.slab.specs.Update.{step}
+use Rattle.slab.specs.Update.{updateOne}
 use Rattle.slab.proofs.Shown.{shown, inside}
 use borrow.Author.Needs.{needs}
 use Rattle.triangle_real32.proofs.scale_one.Statement.{statement}
@@ -24,7 +24,7 @@ same-length : tie.Need-same-length
 same-length c = search needs
 
 returns : tie.Need-returns
-unfolding step
+unfolding updateOne
 returns c =
     let p = c .before .before .before .before .before .before .before .before .before .args in
     c .before .before .put32 .ensures ∙ (λ i. real32 .put (now (p .b)) (c .before .before .before .before .place .ensures i) ((c .before .before .before .mul .ensures ∙ ap (real32 .mul (p .alpha .0)) (c .before .before .before .before .before .before .elem32 .ensures)) i))

@@ -4,20 +4,20 @@ use native.Mathlib.Omega.{arith}
 use denote.Ref.{now}
 use Rattle.number.specs.Kind.{real64}
 use Rattle.slab.specs.Elem.{elem}
-use Rattle.slab.specs.Run.{plain, more}
-use Rattle.slab.proofs.RunLaws.{more-start, more-end, more-next}
+use Rattle.slab.specs.Run.{elemConj, plusTerms}
+use Rattle.slab.proofs.RunLaws.{plus-start, plus-end, plus-next}
 use Rattle.order.proofs.Systems.{weighed, not-past}
 use Rattle.triangle_real64.proofs.add_run.Statement.{statement}
 use Rattle.triangle_real64.proofs.add_run.Tie as tie
 
 abbrev Inv-loop : tie.InvT-loop
-Inv-loop conjugated a va b vb q l from n x sum₀ i₀ sum i = (i ≤ n) × (sum ≡ more real64 sum₀ (λ p. real64 .mul (plain real64 conjugated a va q p) (elem real64 b vb p l)) from i)
+Inv-loop conjugated a va b vb q l from n x sum₀ i₀ sum i = (i ≤ n) × (sum ≡ plusTerms real64 sum₀ (λ p. real64 .mul (elemConj real64 conjugated a va q p) (elem real64 b vb p l)) from i)
 
 abbrev μ-loop : tie.MeasureT-loop
 μ-loop conjugated a va b vb q l from n x sum₀ i₀ sum i = n - i
 
 loop-holds : tie.Need-loop-holds Inv-loop μ-loop
-loop-holds c = (omega arith, more-start real64 _ _ _)
+loop-holds c = (omega arith, plus-start real64 _ _ _)
 
 add-p : tie.Need-add-p Inv-loop μ-loop
 add-p c = let h = c .before .before .before .before .pre .left (c .before .loop .i) (omega arith) in omega (arith, h .col, h .fits .cols-le)
@@ -46,10 +46,10 @@ loop-less c = omega arith
 loop-again : tie.Need-loop-again Inv-loop μ-loop
 loop-again c =
     let p = c .before .before .before .before .before .before .before .before .before .before .args in
-    (omega arith, more-next real64 (λ k. real64 .mul (plain real64 (p .conjugated) (now (p .a)) (p .va) (p .q) k) (elem real64 (now (p .b)) (p .vb) k (p .l))) _ _ _ _ _ _ (c .before .before .before .before .before .before .before .loop .inv .1) (weighed real64 _ _ _ _ _ (c .before .before .before .at .ensures) (c .before .before .elem64 .ensures) (c .before .mul .ensures)) (c .add .ensures))
+    (omega arith, plus-next real64 (λ k. real64 .mul (elemConj real64 (p .conjugated) (now (p .a)) (p .va) (p .q) k) (elem real64 (now (p .b)) (p .vb) k (p .l))) _ _ _ _ _ _ (c .before .before .before .before .before .before .before .loop .inv .1) (weighed real64 _ _ _ _ _ (c .before .before .before .at .ensures) (c .before .before .elem64 .ensures) (c .before .mul .ensures)) (c .add .ensures))
 
 returns-2 : tie.Need-returns-2 Inv-loop μ-loop
-returns-2 c = more-end real64 _ _ _ _ _ _ (c .before .loop .inv .0) (omega arith) (c .before .loop .inv .1)
+returns-2 c = plus-end real64 _ _ _ _ _ _ (c .before .loop .inv .0) (omega arith) (c .before .loop .inv .1)
 
 pub add-run-spec : {M : Type 1} → statement M
 add-run-spec =

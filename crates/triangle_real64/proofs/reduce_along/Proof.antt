@@ -5,16 +5,16 @@ use native.Mathlib.Omega.{arith}
 use Rattle.number.specs.Kind.{real64}
 use Rattle.view.specs.Place.{index}
 use Rattle.slab.specs.Elem.{elem}
-use Rattle.slab.specs.Run.{plain}
-use Rattle.blas.specs.Substitution.{less}
-use Rattle.blas.proofs.SubstitutionLaws.{less-start, less-next, less-end}
+use Rattle.slab.specs.Run.{elemConj}
+use Rattle.blas.specs.Substitution.{minusTerms}
+use Rattle.blas.proofs.SubstitutionLaws.{minus-start, minus-next, minus-end}
 use Rattle.order.proofs.PlaceLaws.{next-coefficient, next-unknown, to-start, Stands, stands-first, goes-on, at-end, step-past}
 use Rattle.triangle_real64.proofs.reduce_along.Statement.{statement}
 use Rattle.triangle_real64.proofs.reduce_along.Tie as tie
 
 abbrev Inv-loop : tie.InvT-loop
 Inv-loop conjugated a va b vb q from n x first solved stop along down rest₀ c₀ u₀ i₀ rest c u i =
-    (rest ≡ less real64 x (λ p. real64 .mul (plain real64 conjugated a va q p) (elem real64 b vb p 0)) from i) × Stands vb from n stop i u × (i < n → c ≡ index va q (from + i))
+    (rest ≡ minusTerms real64 x (λ p. real64 .mul (elemConj real64 conjugated a va q p) (elem real64 b vb p 0)) from i) × Stands vb from n stop i u × (i < n → c ≡ index va q (from + i))
 
 abbrev μ-loop : tie.MeasureT-loop
 μ-loop conjugated a va b vb q from n x first solved stop along down rest₀ c₀ u₀ i₀ rest c u i = n - i
@@ -29,7 +29,7 @@ loop-holds : tie.Need-loop-holds Inv-loop μ-loop
 loop-holds c =
     let g = c .before .before .before .before .args in
     let p = c .before .before .before .before .pre in
-    (sym (less-start real64 _ _ _), stands-first _ _ _ _ _ _ _ _ (p .1) (p .2), λ h. to-start (g .from) (λ k. g .first ≡ index (g .va) (g .q) k) (p .1 .coefficient h))
+    (sym (minus-start real64 _ _ _), stands-first _ _ _ _ _ _ _ _ (p .1) (p .2), λ h. to-start (g .from) (λ k. g .first ≡ index (g .va) (g .q) k) (p .1 .coefficient h))
 
 -- there is a term more
 more : (c : tie.In-loop Inv-loop μ-loop) → c .before .loop .i < c .before .before .before .before .before .before .args .n
@@ -63,7 +63,7 @@ loop-again c =
     let l = more (c .before .before .before) in
     let small-a : real64 .count (now (g .args .a)) ≤ 2 ^ 63 = omega (arith, g .good .1 .0) in
     let small-b : real64 .count (now (g .args .b)) ≤ 2 ^ 63 = omega (arith, g .good .1 .1 .1 .0) in (
-      less-next real64 _ _ _ _ _ _ _ (i .0) refl (c .before .before .less-at .ensures),
+      minus-next real64 _ _ _ _ _ _ _ (i .0) refl (c .before .before .less-at .ensures),
       record {
         le = omega (arith, l);
         here = λ h. next-unknown _ _ _ _ _ _ _ _ small-a small-b (g .pre .0) h _ _ _ (i .1 .here l) (c .before .before .before .before .before .row-step .ensures) (c .wrapping-add-usize2 .ensures);
@@ -75,7 +75,7 @@ loop-again c =
 returns : tie.Need-returns Inv-loop μ-loop
 returns c =
     let e = at-end _ _ _ _ _ _ _ (c .before .before .before .before .before .before .pre .2) (c .before .loop .inv .1) (c .loop-test .left) in
-    less-end real64 _ _ _ _ _ _ (omega (arith, e)) (omega (arith, e)) (c .before .loop .inv .0)
+    minus-end real64 _ _ _ _ _ _ (omega (arith, e)) (omega (arith, e)) (c .before .loop .inv .0)
 
 pub reduce-along-spec : {M : Type 1} → statement M
 reduce-along-spec =

@@ -1,5 +1,5 @@
 use Rattle.slab.proofs.LoopLaws.{row-next, row-last}
-use Rattle.slab.specs.Update.{row as rowOf, everywhere}
+use Rattle.slab.specs.Update.{updateRow, everywhere}
 use Rattle.order.proofs.Systems.{in-row}
 use Rattle.number.specs.Kind.{real64}
 use borrow.Author.Needs.{needs}
@@ -11,7 +11,7 @@ use Rattle.triangle_real64.proofs.scale_row.Statement.{statement}
 use Rattle.triangle_real64.proofs.scale_row.Tie as tie
 
 abbrev Inv-loop : tie.InvT-loop
-Inv-loop alpha b₀ vb i n j₀ b j = (j ≤ n) × (length b ≡ length b₀) × (b ≡ rowOf real64 vb everywhere (λ i j x. real64 .mul (alpha .0) x) i j b₀)
+Inv-loop alpha b₀ vb i n j₀ b j = (j ≤ n) × (length b ≡ length b₀) × (b ≡ updateRow real64 vb everywhere (λ i j x. real64 .mul (alpha .0) x) i j b₀)
 
 abbrev μ-loop : tie.MeasureT-loop
 μ-loop alpha b₀ vb i n j₀ b j = n - j
@@ -20,7 +20,7 @@ cols-requires : tie.Need-cols-requires Inv-loop μ-loop
 cols-requires c κs = search needs
 
 loop-holds : tie.Need-loop-holds Inv-loop μ-loop
-unfolding rowOf
+unfolding updateRow
 loop-holds c = (omega arith, refl, refl)
 
 scale-one-requires : tie.Need-scale-one-requires Inv-loop μ-loop

@@ -6,7 +6,7 @@ use lib.ListN.{length}
 use Rattle.number.specs.Kind.{real64}
 use Rattle.order.specs.Places.{PlacesAt}
 use Rattle.order.specs.Walk.{walk}
-use Rattle.order.specs.Solve.{solveOne, zeroAfter}
+use Rattle.order.specs.Solve.{solveUnknown, zeroAfter}
 use Rattle.order.proofs.WalkLaws.{walk-start, walk-next}
 use Rattle.order.proofs.Systems.{ready-for}
 use Rattle.order.proofs.PlaceLaws.{first-shown, pivot-here, places-next}
@@ -15,7 +15,7 @@ use Rattle.triangle_real64.proofs.solve_forward.Statement.{statement}
 use Rattle.triangle_real64.proofs.solve_forward.Tie as tie
 
 abbrev Inv-loop : tie.InvT-loop
-Inv-loop sys a b₀ n by at₀ k₀ b at k = (k ≤ n) × (length b ≡ length b₀) × Clear (zeroAfter real64 sys a) k × (b ≡ walk k (λ i. solveOne real64 sys (λ x. x) a i 0) b₀) × (k < n → PlacesAt (sys .last) sys k at)
+Inv-loop sys a b₀ n by at₀ k₀ b at k = (k ≤ n) × (length b ≡ length b₀) × Clear (zeroAfter real64 sys a) k × (b ≡ walk k (λ i. solveUnknown real64 sys (λ x. x) a i 0) b₀) × (k < n → PlacesAt (sys .last) sys k at)
 
 abbrev μ-loop : tie.MeasureT-loop
 μ-loop sys a b₀ n by at₀ k₀ b at k = n - k

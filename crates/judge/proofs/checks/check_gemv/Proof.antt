@@ -1,6 +1,7 @@
--- `check_gemv` meets its contract, by those of its parts.
+-- `check_gemv` meets its contract: a call that the quick test passes is not refused, and another is judged in full.
 use borrow.Author.Needs.{needs}
-use mathlib.Core.Path.{sym}
+use mathlib.Core.Path.{sym, _∙_}
+use Rattle.judge.proofs.Ops.{quick-gemv-passes-op}
 use Rattle.judge.proofs.checks.check_gemv.Statement.{statement}
 use Rattle.judge.proofs.checks.check_gemv.Tie as tie
 
@@ -11,7 +12,7 @@ judge3-requires : tie.Need-judge3-requires
 judge3-requires c κs = search needs
 
 returns : tie.Need-returns
-returns c = sym (c .before .pre (c .if1 .taken))
+returns c = sym (quick-gemv-passes-op _ _ _ _ _ _ _ (sym (c .before .pre) ∙ c .if1 .taken))
 
 returns-2 : tie.Need-returns-2
 returns-2 c = cc

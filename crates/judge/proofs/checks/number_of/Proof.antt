@@ -3,7 +3,7 @@ use borrow.Author.Needs.{needs}
 use mathlib.Core.Path.{ap, _∙_}
 use mathlib.Core.List.{[], _∷_}
 use mir.Facts.{toZ-ofZ}
-use Rattle.view.specs.Steps.{viewOf}
+use Rattle.view.specs.Place.{viewOf}
 use Rattle.view.specs.Judge.{answerNumber, arg, judge}
 use Rattle.judge.proofs.checks.number_of.Statement.{statement}
 use Rattle.judge.proofs.checks.number_of.Tie as tie

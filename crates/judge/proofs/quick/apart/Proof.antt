@@ -1,68 +1,71 @@
--- `apart` meets its contract: no multiple of one stride meets one of the other.
-use mathlib.Core.Path.{sym, ap, subst, _∙_}
-use Prim.Native.Nat.{_-_, _*_}
+-- `apart` meets its contract: the columns are tried where no row is past the one before it.
+use borrow.Author.Needs.{needs}
+use mathlib.Core.Path.{_≡_, sym, ap, _∙_}
+use mathlib.Core.Bool.{Bool, false, _&&_, _||_}
+use Prim.Native.Nat.{ℕ, zero, suc, _≤_, _<_}
 use native.Mathlib.Omega.{arith}
-use lib.Dec.{T}
+use lib.Dec.{ltb}
 use lib.IntN.{ℤ, natAbs}
-use lib.Signed.{nonNeg}
-use mir.Syntax.{w64}
-use mir.Val.{Fits}
-use mir.Facts.{toZ-ofZ}
+use borrow.Author.Tests.{lt-ltb, le-ltb}
 use Rattle.view.specs.Steps.{up}
-use Rattle.judge.specs.Tests.{Run}
-use Rattle.view.specs.OverlapLaws.{no-meeting}
-use Rattle.refusal.proofs.Multiples.{flip, each-past}
-use Rattle.judge.proofs.Runs.{no-test, differs, leads-on, no-shorter, run-cast, run-abs}
+use Rattle.judge.specs.Quick.{leads, reach, apart}
+use Rattle.judge.proofs.Runs.{short-is, leads-is}
 use Rattle.judge.proofs.quick.apart.Statement.{statement}
 use Rattle.judge.proofs.quick.apart.Tie as tie
 
-reach-requires : tie.Need-reach-requires
-reach-requires c κs = subst (Run (c .args .cols)) (sym (toZ-ofZ (c .fits .cs))) (c .pre .1)
+module _ (rows cols : ℕ) (rs cs : ℤ) where
+  by-rows : reach cols cs < up rs → leads cs ≡ apart rows cols rs cs
+  unfolding apart
+  by-rows h = rw (lt-ltb (reach cols cs) (up rs) h) (at (up cs))
+    where
+      at : (y : ℕ) → ltb 0 y ≡ ltb 0 y || (ltb (reach rows rs) y && leads rs)
+      at zero = sym (ap (λ (p : Bool). p && leads rs) (le-ltb (reach rows rs) 0 (omega arith)))
+      at (suc y) = rw (lt-ltb 0 (suc y) (omega arith))
 
-cast-if1 : tie.Need-cast-if1
-cast-if1 c =
-    let s = c .before in
-    subst (λ (z : ℤ). T (nonNeg z) × Fits w64 (natAbs z)) (sym (toZ-ofZ (s .fits .rs))) (run-cast (s .args .rows) (s .args .rs) (s .pre .0))
+  by-cols : up rs ≤ reach cols cs → reach rows rs < up cs → leads rs ≡ apart rows cols rs cs
+  unfolding apart
+  by-cols g h = rw (le-ltb (reach cols cs) (up rs) g, lt-ltb (reach rows rs) (up cs) h)
+
+  by-none : up rs ≤ reach cols cs → up cs ≤ reach rows rs → false ≡ apart rows cols rs cs
+  unfolding apart
+  by-none g h = rw (le-ltb (reach cols cs) (up rs) g, le-ltb (reach rows rs) (up cs) h)
 
 returns : tie.Need-returns
-returns c h =
+returns c =
     let s = c .before .before in
-    let e = c .before .reach .ensures ∙ ap (λ (z : ℤ). (s .args .cols - 1) * up z) (toZ-ofZ (s .fits .cs)) in
-    let x = ap natAbs (toZ-ofZ (s .fits .rs)) ∙ run-abs (s .args .rows) (s .args .rs) (s .pre .0) in
-    let l = leads-on (s .args .cols) (s .args .cs) (s .pre .1) (differs _ 0 h) in
-    no-meeting (s .args .rows) (up (s .args .rs)) (s .args .cols) (up (s .args .cs))
-    (each-past (s .args .rows) (up (s .args .rs)) (s .args .cols) (up (s .args .cs)) (no-shorter (s .args .cols - 1) (up (s .args .cs)) l) (omega (arith, c .if1 .taken, e, x)))
-
-reach-requires-2 : tie.Need-reach-requires-2
-reach-requires-2 c κs =
-    let s = c .before .before in
-    subst (Run (s .args .rows)) (sym (toZ-ofZ (s .fits .rs))) (s .pre .0)
-
-cast-if2 : tie.Need-cast-if2
-cast-if2 c =
-    let s = c .before .before .before in
-    subst (λ (z : ℤ). T (nonNeg z) × Fits w64 (natAbs z)) (sym (toZ-ofZ (s .fits .cs))) (run-cast (s .args .cols) (s .args .cs) (s .pre .1))
+    let x = short-is (s .args .rs) (s .pre .0 .1) in
+    let y = short-is (s .args .cs) (s .pre .1 .1) in
+    leads-is (s .args .cs) (s .pre .1 .1)
+    ∙ by-rows (s .args .rows) (s .args .cols) (s .args .rs) (s .args .cs)
+    (omega (arith, c .if1 .taken, c .before .reach .ensures, ap (reach (s .args .cols)) (y .back), ap natAbs (x .back), x .size))
 
 returns-2 : tie.Need-returns-2
-returns-2 c h =
+returns-2 c =
     let s = c .before .before .before .before in
-    let d = c .before .reach2 .ensures ∙ ap (λ (z : ℤ). (s .args .rows - 1) * up z) (toZ-ofZ (s .fits .rs)) in
-    let y = ap natAbs (toZ-ofZ (s .fits .cs)) ∙ run-abs (s .args .cols) (s .args .cs) (s .pre .1) in
-    let l = leads-on (s .args .rows) (s .args .rs) (s .pre .0) (differs _ 0 h) in
-    no-meeting (s .args .rows) (up (s .args .rs)) (s .args .cols) (up (s .args .cs))
-    (λ m. each-past (s .args .cols) (up (s .args .cs)) (s .args .rows) (up (s .args .rs)) (no-shorter (s .args .rows - 1) (up (s .args .rs)) l) (omega (arith, c .if2 .taken, d, y)) (flip m))
+    let x = short-is (s .args .rs) (s .pre .0 .1) in
+    let y = short-is (s .args .cs) (s .pre .1 .1) in
+    leads-is (s .args .rs) (s .pre .0 .1)
+    ∙ by-cols (s .args .rows) (s .args .cols) (s .args .rs) (s .args .cs)
+    (omega (arith, c .before .before .if1 .left, c .before .before .before .reach .ensures, ap (reach (s .args .cols)) (y .back), ap natAbs (x .back), x .size))
+    (omega (arith, c .if2 .taken, c .before .reach2 .ensures, ap (reach (s .args .rows)) (x .back), ap natAbs (y .back), y .size))
 
 returns-3 : tie.Need-returns-3
-returns-3 c h = no-test h
+returns-3 c =
+    let s = c .before .before .before .before in
+    let x = short-is (s .args .rs) (s .pre .0 .1) in
+    let y = short-is (s .args .cs) (s .pre .1 .1) in
+    by-none (s .args .rows) (s .args .cols) (s .args .rs) (s .args .cs)
+    (omega (arith, c .before .before .if1 .left, c .before .before .before .reach .ensures, ap (reach (s .args .cols)) (y .back), ap natAbs (x .back), x .size))
+    (omega (arith, c .if2 .left, c .before .reach2 .ensures, ap (reach (s .args .rows)) (x .back), ap natAbs (y .back), y .size))
 
 pub apart-spec : {M : Type 1} → statement M
 apart-spec =
     tie.close
     (tie.spec
-    reach-requires
-    cast-if1
+    (λ c κs. search needs)
+    (λ c. short-is _ (c .before .pre .0 .1) .cast)
     returns
-    reach-requires-2
-    cast-if2
+    (λ c κs. search needs)
+    (λ c. short-is _ (c .before .before .before .pre .1 .1) .cast)
     returns-2
     returns-3)

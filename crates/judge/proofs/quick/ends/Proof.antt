@@ -1,13 +1,13 @@
--- `ends` meets its contract.
+-- `ends` meets its contract: the sums are far below 2 ^ 64.
 use borrow.Author.Needs.{needs}
 use mathlib.Core.Path.{ap, _∙_}
-use Prim.Native.Nat.{_+_, _-_, _*_}
+use Prim.Native.Nat.{_+_, _^_}
 use native.Mathlib.Omega.{arith}
-use lib.IntN.{ℤ}
+use lib.Dec.{ltb}
 use mir.Facts.{toZ-ofZ}
 use borrow.Author.Tests.{ltb-true}
-use Rattle.view.specs.Steps.{up}
-use Rattle.judge.proofs.Runs.{run-le}
+use Rattle.judge.specs.Quick.{reach}
+use Rattle.judge.proofs.Runs.{reach-le}
 use Rattle.judge.proofs.quick.ends.Statement.{statement}
 use Rattle.judge.proofs.quick.ends.Tie as tie
 
@@ -19,24 +19,18 @@ reach-requires-2 c κs = search needs
 
 add-result : tie.Need-add-result
 add-result c =
-    let s = c .before .before in
-    let d = c .before .reach .ensures ∙ ap (λ (z : ℤ). (s .args .rows - 1) * up z) (toZ-ofZ (s .fits .rs)) in
-    let e = c .reach2 .ensures ∙ ap (λ (z : ℤ). (s .args .cols - 1) * up z) (toZ-ofZ (s .fits .cs)) in
-    record { fits = omega (arith, d, e, run-le (s .args .rows) (s .args .rs) (s .pre .1), run-le (s .args .cols) (s .args .cs) (s .pre .2)) }
+    record { fits = omega (arith, c .before .reach .ensures, c .reach2 .ensures, reach-le _ _ (reach-requires (c .before .before) tt), reach-le _ _ (reach-requires-2 (c .before) tt)) }
 
 add-result-2 : tie.Need-add-result-2
 add-result-2 c =
-    let s = c .before .before in
-    let d = c .before .reach .ensures ∙ ap (λ (z : ℤ). (s .args .rows - 1) * up z) (toZ-ofZ (s .fits .rs)) in
-    let e = c .reach2 .ensures ∙ ap (λ (z : ℤ). (s .args .cols - 1) * up z) (toZ-ofZ (s .fits .cs)) in
-    record { fits = omega (arith, d, e, s .pre .0, run-le (s .args .rows) (s .args .rs) (s .pre .1), run-le (s .args .cols) (s .args .cs) (s .pre .2)) }
+    record { fits = omega (arith, c .before .reach .ensures, c .reach2 .ensures, ltb-true (c .before .before .args .start) (2 ^ 30) (c .before .before .pre .0), reach-le _ _ (reach-requires (c .before .before) tt), reach-le _ _ (reach-requires-2 (c .before) tt)) }
 
 returns : tie.Need-returns
-returns c h =
+returns c =
     let s = c .before .before in
-    let d = c .before .reach .ensures ∙ ap (λ (z : ℤ). (s .args .rows - 1) * up z) (toZ-ofZ (s .fits .rs)) in
-    let e = c .reach2 .ensures ∙ ap (λ (z : ℤ). (s .args .cols - 1) * up z) (toZ-ofZ (s .fits .cs)) in
-    omega (arith, d, e, ltb-true (s .args .start + (c .before .reach .result + c .reach2 .result)) (s .args .len) h)
+    let d = c .before .reach .ensures ∙ ap (reach (s .args .rows)) (toZ-ofZ (s .fits .rs)) in
+    let e = c .reach2 .ensures ∙ ap (reach (s .args .cols)) (toZ-ofZ (s .fits .cs)) in
+    λ i. ltb (s .args .start + (d i + e i)) (s .args .len)
 
 pub ends-spec : {M : Type 1} → statement M
 ends-spec = tie.close (tie.spec reach-requires reach-requires-2 add-result add-result-2 returns)

@@ -1,52 +1,21 @@
 -- `quick_hemv` meets its contract, by those of its parts.
 use borrow.Author.Needs.{needs}
-use Rattle.judge.proofs.Runs.{no-test}
-use mathlib.Core.Path.{sym, subst}
-use Rattle.judge.specs.Tests.{Count}
-use Rattle.judge.proofs.Runs.{accepted}
-use Rattle.judge.proofs.Passes.{pass3, hemv-shape}
+use Rattle.judge.specs.Quick.{quickHemv}
+use Rattle.judge.proofs.Runs.{ways, told}
+use Rattle.judge.proofs.Sizes.{square-rows, square-small}
 use Rattle.judge.proofs.quick.quick_hemv.Statement.{statement}
 use Rattle.judge.proofs.quick.quick_hemv.Tie as tie
 
-square-requires : tie.Need-square-requires
-square-requires c κs = search needs
-
-plain-requires : tie.Need-plain-requires
-plain-requires c κs =
-    let q = c .before .square .ensures (c .if1 .taken) in (q .0, subst Count (sym (q .1)) (q .0))
-
-vector-requires : tie.Need-vector-requires
-vector-requires c κs = (c .before .before .before .square .ensures (c .before .before .if1 .taken)) .0
-
-vector-target-requires : tie.Need-vector-target-requires
-vector-target-requires c κs = (c .before .before .before .before .before .square .ensures (c .before .before .before .before .if1 .taken)) .0
-
-returns : tie.Need-returns
-returns c h =
-    let g = c .before .before .before .before .before .before .before .args in
-    let q = c .before .before .before .before .before .before .square .ensures (c .before .before .before .before .before .if1 .taken) in
-    let v = c .before .before .vector .ensures (c .before .if3 .taken) in
-    let w = c .vector-target .ensures h in
-    pass3 (g .a) (g .la) (g .x) (g .lx) (g .y) (g .ly) (hemv-shape (g .a) (g .x) (g .y) (q .1) (v .1) (w .1)) (accepted (g .a) (g .la) (c .before .before .before .before .plain .ensures (c .before .before .before .if2 .taken))) (v .0) (w .0) (w .2)
-
-returns-2 : tie.Need-returns-2
-returns-2 c h = no-test h
-
-returns-3 : tie.Need-returns-3
-returns-3 c h = no-test h
-
-returns-4 : tie.Need-returns-4
-returns-4 c h = no-test h
-
 pub quick-hemv-spec : {M : Type 1} → statement M
+unfolding quickHemv
 quick-hemv-spec =
     tie.close
     (tie.spec
-    square-requires
-    plain-requires
-    vector-requires
-    vector-target-requires
-    returns
-    returns-2
-    returns-3
-    returns-4)
+    (search needs)
+    (λ c κs. search (told, square-small))
+    (λ c κs. search (told, square-rows))
+    (λ c κs. search (told, square-rows))
+    (λ c. search ways)
+    (λ c. search ways)
+    (λ c. search ways)
+    (λ c. search ways))

@@ -1,49 +1,21 @@
 -- `quick_syrk` meets its contract, by those of its parts.
 use borrow.Author.Needs.{needs}
-use Rattle.judge.proofs.Runs.{no-test}
-use mathlib.Core.Path.{sym, _∙_}
-use Rattle.judge.proofs.Runs.{accepted}
-use Rattle.judge.proofs.Passes.{pass2, syrk-counts}
+use Rattle.judge.specs.Quick.{quickSyrk}
+use Rattle.judge.proofs.Runs.{ways, told}
+use Rattle.judge.proofs.Sizes.{syrk-target}
 use Rattle.judge.proofs.quick.quick_syrk.Statement.{statement}
 use Rattle.judge.proofs.quick.quick_syrk.Tie as tie
 
-small-requires : tie.Need-small-requires
-small-requires c κs = search needs
-
-syrk-requires : tie.Need-syrk-requires
-syrk-requires c κs = search needs
-
-plain-requires : tie.Need-plain-requires
-plain-requires c κs = c .before .before .before .small .ensures (c .before .before .if1 .taken)
-
-written-requires : tie.Need-written-requires
-written-requires c κs =
-    let g = c .before .before .before .before .before .before .args in syrk-counts (g .t) (g .a) (g .c) (sym (c .before .before .before .syrk .ensures) ∙ c .before .before .if2 .taken) (c .before .before .before .before .before .small .ensures (c .before .before .before .before .if1 .taken))
-
-returns : tie.Need-returns
-returns c h =
-    let g = c .before .before .before .before .before .before .before .args in
-    let w = c .written .ensures h in
-    pass2 (g .a) (g .la) (g .c) (g .lc) (sym (c .before .before .before .before .syrk .ensures) ∙ c .before .before .before .if2 .taken) (accepted (g .a) (g .la) (c .before .before .plain .ensures (c .before .if3 .taken))) (accepted (g .c) (g .lc) (w .0)) (w .1)
-
-returns-2 : tie.Need-returns-2
-returns-2 c h = no-test h
-
-returns-3 : tie.Need-returns-3
-returns-3 c h = no-test h
-
-returns-4 : tie.Need-returns-4
-returns-4 c h = no-test h
-
 pub quick-syrk-spec : {M : Type 1} → statement M
+unfolding quickSyrk
 quick-syrk-spec =
     tie.close
     (tie.spec
-    small-requires
-    syrk-requires
-    plain-requires
-    written-requires
-    returns
-    returns-2
-    returns-3
-    returns-4)
+    (search needs)
+    (search needs)
+    (λ c κs. search told)
+    (λ c κs. let g = c .before .before .before .before .before .before .args in syrk-target (g .t) (g .a) (g .c) (search told) (search told))
+    (λ c. search ways)
+    (λ c. search ways)
+    (λ c. search ways)
+    (λ c. search ways))

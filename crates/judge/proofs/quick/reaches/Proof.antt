@@ -1,61 +1,40 @@
--- `reaches` meets its contract, by those of its parts.
+-- `reaches` meets its contract: the sum is far below 2 ^ 64.
 use borrow.Author.Needs.{needs}
-use mathlib.Core.Path.{ap, subst, _∙_}
-use Prim.Native.Nat.{_+_, _-_, _*_}
+use mathlib.Core.Path.{sym, _∙_, ap}
+use Prim.Native.Nat.{ℕ, _+_, _^_}
 use native.Mathlib.Omega.{arith}
-use lib.IntN.{ℤ}
+use lib.Dec.{ltb}
 use mir.Facts.{toZ-ofZ}
 use borrow.Author.Tests.{ltb-true}
-use Rattle.view.specs.Steps.{up}
-use Rattle.judge.specs.Tests.{Run}
-use Rattle.judge.proofs.Runs.{no-test, run-le}
+use Rattle.judge.specs.Quick.{reaches}
+use Rattle.judge.proofs.Runs.{ways, told, reach-le}
 use Rattle.judge.proofs.quick.reaches.Statement.{statement}
 use Rattle.judge.proofs.quick.reaches.Tie as tie
 
-near-requires : tie.Need-near-requires
-near-requires c κs = search needs
-
-short-requires : tie.Need-short-requires
-short-requires c κs = search needs
-
 reach-requires : tie.Need-reach-requires
-reach-requires c κs =
-    let x = c .before .short .ensures (c .if2 .taken) in
-    let s = c .before .before .before .before in
-    record { some = s .pre .0; few = s .pre .1; forward = x .0; short = x .1 }
+reach-requires c κs = search told
 
 add-result : tie.Need-add-result
 add-result c =
-    let s = c .before .before .before .before .before in
-    let e = toZ-ofZ (s .fits .z) in
-    let r = subst (Run (s .args .n)) e (reach-requires (c .before) tt) in
-    let d = c .reach .ensures ∙ ap (λ (z : ℤ). (s .args .n - 1) * up z) e in
-    record { fits = omega (arith, d, run-le (s .args .n) (s .args .z) r, c .before .before .before .before .near .ensures (c .before .before .before .if1 .taken)) }
+    let s = c .before .before .before .before in
+    record { fits = omega (arith, c .reach .ensures, reach-le _ _ (reach-requires (c .before) tt), ltb-true (s .before .args .start) (2 ^ 30) (sym (s .near .ensures) ∙ c .before .before .before .if1 .taken)) }
 
 returns : tie.Need-returns
-returns c h =
+unfolding reaches
+returns c =
     let s = c .before .before .before .before .before in
-    let e = toZ-ofZ (s .fits .z) in
-    let d = c .reach .ensures ∙ ap (λ (z : ℤ). (s .args .n - 1) * up z) e in
-    record {
-      run = subst (Run (s .args .n)) e (reach-requires (c .before) tt);
-      below = omega (arith, d, ltb-true (s .args .start + c .reach .result) (s .args .len) h);
-    }
+    let e = ap (λ (k : ℕ). ltb (s .args .start + k) (s .args .len)) (c .reach .ensures) in
+    rw (sym (toZ-ofZ (s .fits .z))) (search ways)
 
 returns-2 : tie.Need-returns-2
-returns-2 c h = no-test h
+unfolding reaches
+returns-2 c = rw (sym (toZ-ofZ (c .before .before .before .before .fits .z))) (search ways)
 
 returns-3 : tie.Need-returns-3
-returns-3 c h = no-test h
+unfolding reaches
+returns-3 c = search ways
 
 pub reaches-spec : {M : Type 1} → statement M
 reaches-spec =
     tie.close
-    (tie.spec
-    near-requires
-    short-requires
-    reach-requires
-    add-result
-    returns
-    returns-2
-    returns-3)
+    (tie.spec (search needs) (search needs) reach-requires add-result returns returns-2 returns-3)

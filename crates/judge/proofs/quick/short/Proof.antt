@@ -1,36 +1,35 @@
 -- `short` meets its contract. What the machine reads back from the bits of z is z.
-use mathlib.Core.Path.{_≡_, sym, ap, _∙_, subst}
-use mathlib.Core.Bool.{false}
+use mathlib.Core.Path.{_≡_, refl, ap, _∙_}
+use mathlib.Core.Bool.{true, false}
 use Prim.Native.Nat.{_^_}
-use native.Mathlib.Omega.{arith}
-use lib.Dec.{T}
-use lib.IntN.{ℤ, pos, natAbs}
-use lib.Signed.{ltZ, nonNeg}
-use mir.Syntax.{w64}
-use mir.Val.{Fits, toZ, ofZ}
-use mir.Facts.{toZ-ofZ}
-use borrow.Author.Tests.{ltb-true}
-use Rattle.refusal.proofs.Strides.{up-cast, up-is, down-zero}
-use Rattle.judge.proofs.Runs.{no-test}
+use lib.Dec.{ltb}
+use lib.IntN.{ℤ, pos, negsuc, natAbs}
+use lib.Signed.{ltZ}
+use mir.Facts.{toZ-ofZ, sfits-toZ, fits-ofZ}
+use Rattle.view.specs.AnyLaws.{clash}
+use Rattle.refusal.proofs.Strides.{up-cast, not-below-zero}
+use Rattle.judge.specs.Quick.{short}
 use Rattle.judge.proofs.quick.short.Statement.{statement}
 use Rattle.judge.proofs.quick.short.Tie as tie
 
+negative : (z : ℤ) → ltZ z (pos 0) ≡ true → false ≡ short z
+unfolding short
+negative (pos n) h = absurd (not-below-zero n h)
+negative (negsuc n) h = refl
+
+natural : (z : ℤ) → ltZ z (pos 0) ≡ false → ltb (natAbs z) (2 ^ 30) ≡ short z
+unfolding short
+natural (pos n) h = refl
+natural (negsuc n) h = absurd (clash refl h)
+
 cast-result : tie.Need-cast-result
-cast-result c =
-    let back = toZ-ofZ (c .before .fits .z) in
-    subst (λ (z : ℤ). T (nonNeg z) × Fits w64 (natAbs z)) (sym back)
-    (up-cast (c .before .args .z) (c .before .fits .z) (subst (λ (z : ℤ). ltZ z (pos 0) ≡ false) back (c .if1 .left)))
+cast-result c = up-cast _ (sfits-toZ (fits-ofZ (c .before .fits .z))) (c .if1 .left)
 
 returns : tie.Need-returns
-returns c h = no-test h
+returns c = negative _ (c .if1 .taken) ∙ ap short (toZ-ofZ (c .before .fits .z))
 
 returns-2 : tie.Need-returns-2
-returns-2 c h =
-    let z = c .before .args .z in
-    let back = toZ-ofZ (c .before .fits .z) in
-    let low = subst (λ (z : ℤ). ltZ z (pos 0) ≡ false) back (c .if1 .left) in
-    let far = ltb-true (natAbs (toZ w64 (ofZ w64 z))) (2 ^ 30) h in
-    (sym (down-zero z low), omega (arith, far, ap natAbs back ∙ up-is z low))
+returns-2 c = natural _ (c .if1 .left) ∙ ap short (toZ-ofZ (c .before .fits .z))
 
 pub short-spec : {M : Type 1} → statement M
 short-spec = tie.close (tie.spec cast-result returns returns-2)

@@ -1,30 +1,31 @@
 -- `vector_target` meets its contract, by those of its parts.
 use borrow.Author.Needs.{needs}
-use mathlib.Core.Path.{subst}
+use mathlib.Core.Path.{ap, _∙_}
+use mathlib.Core.Bool.{Bool}
 use lib.IntN.{ℤ}
 use mir.Facts.{toZ-ofZ}
-use Rattle.judge.specs.Tests.{Reaching}
-use Rattle.judge.proofs.Runs.{no-test, differs, line, line-distinct, leads-on}
+use Rattle.judge.specs.Quick.{leads, reaches, plainVector, writtenVector}
+use Rattle.judge.proofs.Runs.{so, no, told, leads-is, reaches-short}
 use Rattle.judge.proofs.quick.vector_target.Statement.{statement}
 use Rattle.judge.proofs.quick.vector_target.Tie as tie
 
-stride-of-requires : tie.Need-stride-of-requires
-stride-of-requires c κs = search needs
-
-reaches-requires : tie.Need-reaches-requires
-reaches-requires c κs = search needs
-
 returns : tie.Need-returns
-returns c h =
+unfolding plainVector writtenVector
+returns c =
     let g = c .before .before .before .args in
     let s = c .before .before .stride-of in
-    let r = subst (λ (z : ℤ). Reaching (g .v .start) (g .n) z (g .len)) (toZ-ofZ (record { sfits = s .ok })) (c .before .reaches .ensures (c .if1 .taken)) in
-    let k = s .ensures (r .run .forward) in
-    let w = line (g .v) (g .n) (s .result) (g .len) k r in
-    (w .accepted, w .vector, line-distinct (g .v) (g .n) (s .result) k (r .run) (leads-on (g .n) (s .result) (r .run) (differs _ 0 h)))
+    let f : ℤ → Bool = λ z. reaches (g .v .start) (g .n) z (g .len) in
+    let e = c .before .reaches .ensures ∙ ap f (toZ-ofZ (record { sfits = s .ok })) in
+    so _ _ _ _ (e ∙ ap f (s .ensures)) (c .if1 .taken)
+    (leads-is (s .result) (reaches-short _ _ _ _ (told _ _ e (c .if1 .taken))) ∙ ap leads (s .ensures))
 
 returns-2 : tie.Need-returns-2
-returns-2 c h = no-test h
+unfolding plainVector writtenVector
+returns-2 c =
+    let g = c .before .before .before .args in
+    let s = c .before .before .stride-of in
+    let f : ℤ → Bool = λ z. reaches (g .v .start) (g .n) z (g .len) in
+    no _ _ _ (c .before .reaches .ensures ∙ ap f (toZ-ofZ (record { sfits = s .ok }) ∙ s .ensures)) (c .if1 .left)
 
 pub vector-target-spec : {M : Type 1} → statement M
-vector-target-spec = tie.close (tie.spec stride-of-requires reaches-requires returns returns-2)
+vector-target-spec = tie.close (tie.spec (search needs) (λ c κs. search needs) returns returns-2)

@@ -1,36 +1,31 @@
--- `written` meets its contract, by those of its parts.
+-- `written` meets its contract, by those of its parts. What the machine reads back from the bits of a stride is the stride.
 use borrow.Author.Needs.{needs}
-use Rattle.judge.proofs.Runs.{no-test}
 use mathlib.Core.Path.{sym, subst, _∙_}
-use mir.Syntax.{w64}
-use mir.Facts.{toZ-ofZ}
-use Rattle.view.specs.Steps.{up, meets}
-use Rattle.judge.specs.Tests.{Run}
-use Rattle.judge.proofs.Runs.{distinct}
+use Rattle.judge.specs.Quick.{Run, apart, written}
+use Rattle.judge.proofs.Runs.{ways, told, short-is}
+use Rattle.judge.proofs.Views.{plain-is}
 use Rattle.judge.proofs.quick.written.Statement.{statement}
 use Rattle.judge.proofs.quick.written.Tie as tie
-
-plain-requires : tie.Need-plain-requires
-plain-requires c κs = search needs
 
 apart-requires : tie.Need-apart-requires
 apart-requires c κs =
     let s = c .before .before .before .before in
-    let f = c .before .struct-told .given .1 .1 .1 in
-    let p = c .before .before .before .plain .ensures (c .before .before .if1 .taken) in
-    (subst (Run (s .args .v .rows)) (sym (toZ-ofZ (record { sfits = f .0 .1 }))) (p .0), subst (Run (s .args .v .cols)) (sym (toZ-ofZ (record { sfits = f .1 .0 .1 }))) (p .1))
+    let v = s .args .v in
+    let p = plain-is v (s .args .len) (s .pre) (told _ _ (c .before .before .before .plain .ensures) (c .before .before .if1 .taken)) in
+    (subst (Run (v .rows)) (sym (short-is (v .rs) (p .down-rows .1) .back)) (p .down-rows), subst (Run (v .cols)) (sym (short-is (v .cs) (p .along-cols .1) .back)) (p .along-cols))
 
 returns : tie.Need-returns
-returns c h =
-    let v = c .before .before .before .before .before .args .v in
-    let f = c .before .before .struct-told .given .1 .1 .1 in
-    let p = c .before .before .before .before .plain .ensures (c .before .before .before .if1 .taken) in
-    let x = toZ-ofZ {w = w64} {z = v .rs} (record { sfits = f .0 .1 }) in
-    let y = toZ-ofZ {w = w64} {z = v .cs} (record { sfits = f .1 .0 .1 }) in
-    (p, distinct v (p .0) (p .1) (sym (λ i. meets (v .rows) (up (x i)) (v .cols) (up (y i))) ∙ c .apart .ensures h))
+unfolding written
+returns c =
+    let s = c .before .before .before .before .before in
+    let v = s .args .v in
+    let t = told _ _ (c .before .before .before .before .plain .ensures) (c .before .before .before .if1 .taken) in
+    let p = plain-is v (s .args .len) (s .pre) t in
+    rw t (c .apart .ensures ∙ (λ i. apart (v .rows) (v .cols) (short-is (v .rs) (p .down-rows .1) .back i) (short-is (v .cs) (p .along-cols .1) .back i)))
 
 returns-2 : tie.Need-returns-2
-returns-2 c h = no-test h
+unfolding written
+returns-2 c = search ways
 
 pub written-spec : {M : Type 1} → statement M
-written-spec = tie.close (tie.spec plain-requires apart-requires returns returns-2)
+written-spec = tie.close (tie.spec (λ c κs. search needs) apart-requires returns returns-2)

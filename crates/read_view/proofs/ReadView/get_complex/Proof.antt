@@ -5,8 +5,7 @@ use contract.Running.{givenOf, tables, tablesOf}
 use denote.Enum.Laws as EL
 use denote.Triple.Spec.{tripleOf}
 use denote.Triple.Table.{entered, cited}
-use Rattle.read_view.specs.Read.{readAt}
-use Rattle.read_view.specs.declared.FoundComplex.the-variants.{Number, Refused}
+use Rattle.read_view.specs.Read.{foundComplexOutcome, readOutcome}
 use Rattle.read_view.proofs.FoundComplex as S
 use Rattle.read_view.proofs.FoundComplex.Laws as S′
 use Rattle.read_view.proofs.Apart.{apart-meets}
@@ -23,6 +22,6 @@ unfolding code.routine tablesOf
 get-complex-spec 𝓤 H 𝓜 𝓖 𝓡 =
     entered 𝓤 H (tripleOf 𝓤 H (𝓖 .A) get.signature (get.spec 𝓤 H (𝓖 .A) (𝓜 .mem) (𝓡 .run)))
     (tables 𝓤 H 𝓜 𝓡 code.env .C) (tables 𝓤 H 𝓜 𝓡 code.env .Λ) get-key.name code.function (code.unfolded 𝓤 H 𝓜 𝓡)
-    (apart-meets find-def.name S.the-row S′.mir (readAt complex Number Refused) 𝓤 H (𝓖 .A) (givenOf 𝓤 H 𝓜 𝓖)
+    (apart-meets find-def.name S.the-row S′.mir foundComplexOutcome (readOutcome complex) 𝓤 H (𝓖 .A) (givenOf 𝓤 H 𝓜 𝓖)
     (λ r u is. EL.lawful S.the-type S′.the-laws 𝓤 H (𝓖 .A) (givenOf 𝓤 H 𝓜 𝓖) tt .typed r _ is .0) (λ κs a. get.clauses 𝓤 H (𝓖 .A) (𝓜 .mem) (𝓡 .run) κs a .ensures tt) (λ κs a r e. refl) (tablesOf 𝓤 H 𝓜 (tables 𝓤 H 𝓜 𝓡 code.env))
     (cited 𝓤 H (tripleOf 𝓤 H (𝓖 .A) find.signature (find.spec 𝓤 H (𝓖 .A) (𝓜 .mem) (𝓡 .run))) 𝓜 𝓡 code.env find-def.name find-def.routine code.calls-read-view·find-complex (find-thm.met 𝓤 H 𝓜 𝓖 𝓡)))

@@ -1,0 +1,8 @@
+-- `one` meets its contract: the literals are 1 and +0.
+use lib.Ieee.{binary64}
+use Rattle.number.proofs.Literals.{zero-literal, one-literal64}
+use Rattle.number.proofs.Complex.one.Statement.{statement}
+use Rattle.number.proofs.Complex.one.Tie as tie
+
+pub one-spec : {M : Type 1} → statement M
+one-spec = tie.close (tie.spec (λ c. rw (zero-literal binary64, one-literal64)))

@@ -1,0 +1,8 @@
+-- `zero` meets its contract: both literals are +0.
+use lib.Ieee.{binary64}
+use Rattle.number.proofs.Literals.{zero-literal}
+use Rattle.number.proofs.Complex.zero.Statement.{statement}
+use Rattle.number.proofs.Complex.zero.Tie as tie
+
+pub zero-spec : {M : Type 1} → statement M
+zero-spec = tie.close (tie.spec (λ c. rw (zero-literal binary64)))

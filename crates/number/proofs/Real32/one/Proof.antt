@@ -1,0 +1,7 @@
+-- `one` meets its contract: the literal 1.0 is ONE.
+use Rattle.number.proofs.Literals.{one-literal32}
+use Rattle.number.proofs.Real32.one.Statement.{statement}
+use Rattle.number.proofs.Real32.one.Tie as tie
+
+pub one-spec : {M : Type 1} → statement M
+one-spec = tie.close (tie.spec (λ c. one-literal32))

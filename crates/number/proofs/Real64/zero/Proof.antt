@@ -1,0 +1,8 @@
+-- `zero` meets its contract: the literal 0.0 is ZERO.
+use lib.Ieee.{binary64}
+use Rattle.number.proofs.Literals.{zero-literal}
+use Rattle.number.proofs.Real64.zero.Statement.{statement}
+use Rattle.number.proofs.Real64.zero.Tie as tie
+
+pub zero-spec : {M : Type 1} → statement M
+zero-spec = tie.close (tie.spec (λ c. zero-literal binary64))
