@@ -1,5 +1,5 @@
 # make demo: the two-point path. make test: the gate. The rest builds the archive, tests its bindings and compares with the Rust (oracle/).
-.PHONY: demo numbers test archive c-test rust-test oracle-test lists counts compare bench need-rt need-cargo need-cc
+.PHONY: demo numbers test archive c-test rust-test oracle-test lists counts compare bench netlib-examples need-rt need-cargo need-cc
 
 ARCHIVE = target/staticlib/libcapi.a
 
@@ -52,6 +52,10 @@ lists counts: need-cargo need-cc
 	$(MAKE) -C oracle $@
 
 compare bench: archive need-cargo need-cc
+	$(MAKE) -C oracle $@
+
+# Beside Netlib's reference BLAS; where it is not installed (libblas-dev) it says so and does nothing.
+netlib-examples: need-cargo need-cc $(if $(wildcard /usr/lib/*/blas/libblas.a),archive)
 	$(MAKE) -C oracle $@
 
 need-rt:

@@ -76,7 +76,7 @@ const ROUTINES: [&str; 15] = [
 fn main() {
     let here = PathBuf::from(env::var("CARGO_MANIFEST_DIR").unwrap());
     println!("cargo:rerun-if-changed=build.rs");
-    println!("cargo:rustc-check-cfg=cfg(reference, capi)");
+    println!("cargo:rustc-check-cfg=cfg(reference, capi, netlib)");
     let source = |name: &str| {
         let path = here.join(format!("{SOURCE}{name}.rs.txt"));
         println!("cargo:rerun-if-changed={}", path.display());
@@ -93,6 +93,7 @@ fn main() {
     let archive = env::var("ZB_ARCHIVE").map_or_else(|_| here.join(ARCHIVE), PathBuf::from);
     println!("cargo:rerun-if-env-changed=ZB_ARCHIVE");
     link_interface(&archive);
+    link_netlib();
 }
 
 /// Writes what is taken to OUT_DIR.
@@ -214,5 +215,17 @@ fn link_interface(archive: &Path) {
         println!("cargo:rustc-cfg=capi");
         println!("cargo:rustc-link-search=native={}", archive.parent().unwrap().display());
         println!("cargo:rustc-link-lib=static=capi");
+    }
+}
+
+/// Links Netlib's reference BLAS, where ZB_NETLIB names its libblas.a.
+fn link_netlib() {
+    println!("cargo:rerun-if-env-changed=ZB_NETLIB");
+    let library = PathBuf::from(env::var("ZB_NETLIB").unwrap_or_default());
+    if library.is_file() {
+        println!("cargo:rerun-if-changed={}", library.display());
+        println!("cargo:rustc-cfg=netlib");
+        println!("cargo:rustc-link-search=native={}", library.parent().unwrap().display());
+        println!("cargo:rustc-link-lib=static:-bundle=blas");
     }
 }

@@ -86,6 +86,17 @@ impl Routine {
         }
     }
 
+    /// Is its k-th view a vector?
+    pub fn is_vector(self, k: usize) -> bool {
+        match self {
+            Gemv | Hemv => k > 0,
+            Her => k == 0,
+            Her2 => k < 2,
+            Trmv | Trsv => k == 1,
+            _ => false,
+        }
+    }
+
     pub fn alpha(self) -> Factor {
         match self {
             Trmv | Trsv => Factor::Nothing,
@@ -158,6 +169,11 @@ impl Kind {
     pub fn same(self, a: u64, b: u64) -> bool {
         a == b || (self.is_nan(a) && self.is_nan(b))
     }
+
+    /// Equal as numbers: +0 equals -0, every NaN every NaN.
+    pub fn equal(self, a: u64, b: u64) -> bool {
+        self.same(a, b) || self.number(a) == self.number(b)
+    }
 }
 
 /// Start, rows, columns and two signed strides, counted in elements.
@@ -210,6 +226,20 @@ impl Call {
 
     pub fn target(&self) -> &[u64] {
         self.slabs.last().unwrap()
+    }
+
+    /// The call with each view laid by columns on a slab that it fills.
+    pub fn by_columns(mut self) -> Self {
+        let width = self.kind.width();
+        for (view, slab) in self.views.iter_mut().zip(&mut self.slabs) {
+            let laid = View { start: 0, row_stride: 1, col_stride: view.rows.max(1) as i64, ..*view };
+            let mut cells = vec![0; (view.rows * view.cols) as usize * width];
+            for (from, to) in view.places().into_iter().zip(laid.places()) {
+                cells[to as usize * width..][..width].copy_from_slice(&slab[from as usize * width..][..width]);
+            }
+            (*view, *slab) = (laid, cells);
+        }
+        self
     }
 
     /// The cells of the scalars in the order of the arguments.

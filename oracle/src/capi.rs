@@ -12,10 +12,10 @@ const GUARD: usize = 4;
 
 /// A call's arguments.
 pub struct Arguments<C> {
-    flags: [u8; 4],
-    scalars: [C; 4],
-    views: [View; 3],
-    slabs: [(*mut C, usize); 3],
+    pub flags: [u8; 4],
+    pub scalars: [C; 4],
+    pub views: [View; 3],
+    pub slabs: [(*mut C, usize); 3],
 }
 
 impl<C: Copy + Default> Arguments<C> {

@@ -20,7 +20,7 @@ const ONE: [f64; 2] = [1.0, 0.0];
 const TWO: [f64; 2] = [2.0, 0.0];
 
 /// Rows, columns and the cells, by rows.
-type Matrix<'a> = (u64, u64, &'a [f64]);
+pub type Matrix<'a> = (u64, u64, &'a [f64]);
 
 /// A call on matrices that fill their slabs by rows.
 pub fn call(routine: Routine, kind: Kind, flags: &[u8], alpha: [f64; 2], beta: [f64; 2], matrices: &[Matrix]) -> Call {
@@ -44,7 +44,7 @@ fn corner(name: &'static str, call: Call, answer: u8, target: &[f64]) -> Corner 
 }
 
 /// The call with another view for its k-th argument.
-fn seen(mut call: Call, k: usize, start: u64, row_stride: i64, col_stride: i64) -> Call {
+pub fn seen(mut call: Call, k: usize, start: u64, row_stride: i64, col_stride: i64) -> Call {
     call.views[k] = View { start, row_stride, col_stride, ..call.views[k] };
     call
 }

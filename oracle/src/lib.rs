@@ -4,6 +4,9 @@
 /// What is said where the published source is not at hand.
 pub const SKIPPED: &str = "oracle: ../shared/docs/src is not there, so there is no oracle; skipped";
 
+/// What is said where Netlib's reference BLAS is not linked.
+pub const NO_NETLIB: &str = "oracle: Netlib's reference BLAS is not there (libblas-dev); skipped";
+
 #[cfg(reference)]
 pub mod answer;
 #[cfg(reference)]
@@ -17,6 +20,8 @@ pub mod corners;
 pub mod default_blas;
 #[cfg(reference)]
 pub mod differences;
+#[cfg(all(reference, netlib))]
+pub mod examples;
 #[cfg(reference)]
 pub mod faults;
 #[cfg(reference)]
@@ -25,7 +30,11 @@ pub mod generate;
 pub mod layout;
 #[cfg(reference)]
 pub mod list;
+#[cfg(netlib)]
+pub mod netlib;
 pub mod number;
+#[cfg(reference)]
+pub mod page;
 #[cfg(reference)]
 pub mod published;
 pub mod random;

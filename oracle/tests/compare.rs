@@ -2,6 +2,7 @@
 #![cfg(reference)]
 
 use oracle::answer::answer;
+use oracle::call::Kind;
 use oracle::compare::{compare, difference, first_difference};
 use oracle::faults::FAULTS;
 use oracle::format::{self, read_record};
@@ -13,7 +14,7 @@ const CALLS: u64 = 20_000;
 #[test]
 fn the_oracle_agrees_with_itself() {
     let report = compare(|call| Some(answer(call)), many(CALLS, 11));
-    assert_eq!((report.total(), report.differences), (CALLS, 0));
+    assert_eq!((report.total(), report.differences()), (CALLS, 0));
     assert!(report.answers.iter().all(|&count| count > CALLS / 100), "{:?}", report.answers);
 }
 
@@ -48,7 +49,7 @@ fn the_list_finds_each_planted_fault() {
             let (mut ours, mut theirs) = (record.call.clone(), record.call.clone());
             *ours.slabs.last_mut().unwrap() = record.after.clone();
             let given = (fault.answer)(&mut theirs);
-            difference(&record.call, (&ours, record.answer), (&theirs, given)).is_some()
+            difference(Kind::same, &record.call, (&ours, record.answer), (&theirs, given)).is_some()
         });
         assert!(found, "{} is not found by the list", fault.name);
     }

@@ -1,16 +1,42 @@
-//! docs/DIFFERENCES.md says of the Rust what the Rust gives.
+//! docs/DIFFERENCES.md says what the Rust gives.
 #![cfg(reference)]
 
-use oracle::differences::{calls, outcome};
+use oracle::answer::answer;
+use oracle::call::Routine::*;
+use oracle::call::{Call, Kind, Routine};
+use oracle::compare::compare;
+use oracle::generate::many;
+use oracle::page::{RUST, wrong};
 
 #[test]
-fn the_table_is_what_the_rust_gives() {
-    let path = concat!(env!("CARGO_MANIFEST_DIR"), "/../docs/DIFFERENCES.md");
-    let text = std::fs::read_to_string(path).expect("docs/DIFFERENCES.md is there");
-    for (name, call) in calls() {
-        let row = text.lines().find(|line| line.starts_with(&format!("| {name} |")));
-        let row = row.unwrap_or_else(|| panic!("{name} is not in the table"));
-        let cells: Vec<&str> = row.split('|').map(str::trim).collect();
-        assert_eq!(cells[3], outcome(call), "{name}");
+fn the_page_has_what_the_rust_gives() {
+    assert_eq!(wrong(&RUST), [""; 0]);
+}
+
+/// The routine without conjugates that a Hermitian one is on reals.
+fn symmetric(routine: Routine) -> Routine {
+    match routine {
+        Hemm => Symm,
+        Herk => Syrk,
+        Her2k => Syr2k,
+        other => other,
     }
+}
+
+/// On reals hemm and herk give symm's and syrk's bits; her2k does not give syr2k's.
+#[test]
+fn hermitian_routines_on_reals() {
+    let on_reals = |call: &Call| call.kind != Kind::Complex && symmetric(call.routine) != call.routine;
+    let as_symmetric = |call: &mut Call| {
+        let routine = call.routine;
+        call.routine = symmetric(routine);
+        let given = answer(call);
+        call.routine = routine;
+        Some(given)
+    };
+    let report = compare(as_symmetric, many(100_000, 15).filter(on_reals));
+    let differ = |routine: Routine| report.differ[routine as usize][..2].to_vec();
+    assert!(report.calls[Hemm as usize][..2].iter().all(|&count| count > 2000), "{:?}", report.calls);
+    assert_eq!([differ(Hemm), differ(Herk)], [[0, 0], [0, 0]]);
+    assert!(differ(Her2k).iter().all(|&count| count > 100), "{:?}", differ(Her2k));
 }
