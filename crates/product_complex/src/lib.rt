@@ -19,7 +19,7 @@ ghost use Rattle.blas.specs.Herk;
 ghost use Rattle.blas.specs.Symm;
 ghost use Rattle.blas.specs.Syrk;
 ghost use Rattle.product_plan.specs.Plans.{ReadySided, sidedWork};
-ghost use Rattle.product_plan.specs.Plan.{term, planChange, foldedChange, termsBefore, FactorsWithin, Ready, FoldedReady, ByRow};
+ghost use Rattle.product_plan.specs.Plan.{term, planChange, foldedChange, termsBefore, FactorsWithin, PlanReady, FoldedReady, ByRow};
 use judge::check_gemm;
 use judge::check_gemv;
 use judge::check_hemm;
@@ -147,7 +147,7 @@ fn entry(
     i: usize,
     j: usize,
 )
-    requires { ⌜ Ready plan (complex .count (now a)) (complex .count (now b)) (complex .count (now c)) × (i < plan .target .rows) × (j < plan .target .cols) ⌝ }
+    requires { ⌜ PlanReady plan (complex .count (now a)) (complex .count (now b)) (complex .count (now c)) × (i < plan .target .rows) × (j < plan .target .cols) ⌝ }
     ensures { λ _. ⌜ now (c .exit) ≡ replaced complex (plan .target) i j (planChange complex plan (scaleByComplex beta) (times alpha) (now (a .entry)) (now (b .entry)) i j) (now (c .entry)) ⌝ }
 {
     let sum = add_run(plan.factors, a, b, i, j, 0, plan.terms, Complex::ZERO);
@@ -164,7 +164,7 @@ fn row(
     c: &mut [f64],
     i: usize,
 )
-    requires { ⌜ Ready plan (complex .count (now a)) (complex .count (now b)) (complex .count (now c)) × (i < plan .target .rows) ⌝ }
+    requires { ⌜ PlanReady plan (complex .count (now a)) (complex .count (now b)) (complex .count (now c)) × (i < plan .target .rows) ⌝ }
     ensures { λ _. ⌜ now (c .exit) ≡ updateRow complex (plan .target) everywhere (planChange complex plan (scaleByComplex beta) (times alpha) (now (a .entry)) (now (b .entry))) i (plan .target .cols) (now (c .entry)) ⌝ }
 {
     let n = cols(plan.target);
@@ -177,7 +177,7 @@ fn row(
 
 // The whole target.
 fn run(plan: Plan, a: &[f64], b: &[f64], alpha: Multiplier, beta: BetaComplex, c: &mut [f64])
-    requires { ⌜ Ready plan (complex .count (now a)) (complex .count (now b)) (complex .count (now c)) ⌝ }
+    requires { ⌜ PlanReady plan (complex .count (now a)) (complex .count (now b)) (complex .count (now c)) ⌝ }
     ensures { λ _. ⌜ now (c .exit) ≡ update complex (plan .target) everywhere (planChange complex plan (scaleByComplex beta) (times alpha) (now (a .entry)) (now (b .entry))) (now (c .entry)) ⌝ }
 {
     let m = rows(plan.target);
@@ -199,7 +199,7 @@ fn column_entry(
     i: usize,
     j: usize,
 )
-    requires { ⌜ Ready plan (complex .count (now a)) (complex .count (now b)) (complex .count (now c)) × (i < plan .target .rows) × (j < plan .target .cols) × (plan .factors .«right_conj» ≡ false) ⌝ }
+    requires { ⌜ PlanReady plan (complex .count (now a)) (complex .count (now b)) (complex .count (now c)) × (i < plan .target .rows) × (j < plan .target .cols) × (plan .factors .«right_conj» ≡ false) ⌝ }
     ensures { λ _. ⌜ now (c .exit) ≡ replaced complex (plan .target) i j (planChange complex plan (scaleByComplex beta) (times alpha) (now (a .entry)) (now (b .entry)) i j) (now (c .entry)) ⌝ }
 {
     let sum = add_left(plan.factors, a, b, i, j, 0, plan.terms, Complex::ZERO);
@@ -208,7 +208,7 @@ fn column_entry(
 
 // The whole target, which is a column.
 fn run_column(plan: Plan, a: &[f64], b: &[f64], alpha: Multiplier, beta: BetaComplex, c: &mut [f64])
-    requires { ⌜ Ready plan (complex .count (now a)) (complex .count (now b)) (complex .count (now c)) × (plan .target .cols ≡ 1) × (plan .factors .«right_conj» ≡ false) ⌝ }
+    requires { ⌜ PlanReady plan (complex .count (now a)) (complex .count (now b)) (complex .count (now c)) × (plan .target .cols ≡ 1) × (plan .factors .«right_conj» ≡ false) ⌝ }
     ensures { λ _. ⌜ now (c .exit) ≡ update complex (plan .target) everywhere (planChange complex plan (scaleByComplex beta) (times alpha) (now (a .entry)) (now (b .entry))) (now (c .entry)) ⌝ }
 {
     let m = rows(plan.target);
@@ -890,7 +890,7 @@ fn syrk_row(
     c: &mut [f64],
     i: usize,
 )
-    requires { ⌜ Ready plan (complex .count (now a)) (complex .count (now b)) (complex .count (now c)) × (i < plan .target .rows) × (i < plan .target .cols) ⌝ }
+    requires { ⌜ PlanReady plan (complex .count (now a)) (complex .count (now b)) (complex .count (now c)) × (i < plan .target .rows) × (i < plan .target .cols) ⌝ }
     ensures { λ _. ⌜ now (c .exit) ≡ updateRow complex (plan .target) (inTriangle uplo) (planChange complex plan (scaleByComplex beta) (times alpha) (now (a .entry)) (now (b .entry))) i (plan .target .cols) (now (c .entry)) ⌝ }
 {
     let end = end_col(uplo, i, cols(plan.target));
@@ -911,7 +911,7 @@ fn run_syrk(
     beta: BetaComplex,
     c: &mut [f64],
 )
-    requires { ⌜ Ready plan (complex .count (now a)) (complex .count (now b)) (complex .count (now c)) × (plan .target .rows ≡ plan .target .cols) ⌝ }
+    requires { ⌜ PlanReady plan (complex .count (now a)) (complex .count (now b)) (complex .count (now c)) × (plan .target .rows ≡ plan .target .cols) ⌝ }
     ensures { λ _. ⌜ now (c .exit) ≡ update complex (plan .target) (inTriangle uplo) (planChange complex plan (scaleByComplex beta) (times alpha) (now (a .entry)) (now (b .entry))) (now (c .entry)) ⌝ }
 {
     let m = rows(plan.target);
@@ -962,7 +962,7 @@ fn herk_row(
     c: &mut [f64],
     i: usize,
 )
-    requires { ⌜ Ready plan (complex .count (now a)) (complex .count (now b)) (complex .count (now c)) × (i < plan .target .rows) × (i < plan .target .cols) ⌝ }
+    requires { ⌜ PlanReady plan (complex .count (now a)) (complex .count (now b)) (complex .count (now c)) × (i < plan .target .rows) × (i < plan .target .cols) ⌝ }
     ensures { λ _. ⌜ now (c .exit) ≡ updateRow complex (plan .target) (inTriangle uplo) (planChange complex plan (scaleByComplex beta) (times alpha) (now (a .entry)) (now (b .entry))) i (plan .target .cols) (now (c .entry)) ⌝ }
 {
     let end = end_col(uplo, i, cols(plan.target));
@@ -983,7 +983,7 @@ fn run_herk(
     beta: BetaComplex,
     c: &mut [f64],
 )
-    requires { ⌜ Ready plan (complex .count (now a)) (complex .count (now b)) (complex .count (now c)) × (plan .target .rows ≡ plan .target .cols) ⌝ }
+    requires { ⌜ PlanReady plan (complex .count (now a)) (complex .count (now b)) (complex .count (now c)) × (plan .target .rows ≡ plan .target .cols) ⌝ }
     ensures { λ _. ⌜ now (c .exit) ≡ update complex (plan .target) (inTriangle uplo) (planChange complex plan (scaleByComplex beta) (times alpha) (now (a .entry)) (now (b .entry))) (now (c .entry)) ⌝ }
 {
     let m = rows(plan.target);

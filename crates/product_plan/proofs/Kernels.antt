@@ -33,7 +33,7 @@ use Rattle.blas.specs.Herk.{herk, herkLeft, herkRight}
 use Rattle.blas.proofs.OutcomeLaws.{check-done, gives-work, gives-refusal}
 use Rattle.product_plan.specs.declared.plan.Plan.{Plan}
 use Rattle.product_plan.specs.declared.plan.Folded.{Folded}
-use Rattle.product_plan.specs.Plan.{planChange, foldedChange, Ready, FoldedReady, ByRow}
+use Rattle.product_plan.specs.Plan.{planChange, foldedChange, PlanReady, FoldedReady, ByRow}
 use Rattle.product_plan.specs.Plans.{opPlan, gemmPlan, gemvPlan, turnedPlan, columnPlan, leftPlan, rightPlan, hemvPlan, syrkPlan, herkPlan, sidedWork, ReadySided}
 use Rattle.product_plan.proofs.Products.{named, op-product, left-product, right-product}
 use Rattle.product_plan.proofs.Ready.{gemm-ready, gemv-ready, hemv-ready, sided-ready, syrk-ready, herk-ready, target-square}
@@ -71,7 +71,7 @@ gemm-planned ta tb a b c left right ca cb plan e d g f p = p ∙ (λ i. turnedPl
 
 module _ (ta tb : Trans) (a b c : View) (la lb lc : ℕ) (r : Answer) (flag : Bool)
     (answered : r ≡ gemmCheck ta tb a la b lb c lc) (told : flag ≡ isDone r) (passed : flag ≡ true) where
-  pub gemm-runs : (plan : Plan) → plan ≡ gemmPlan ta tb a b c → Ready plan la lb lc
+  pub gemm-runs : (plan : Plan) → plan ≡ gemmPlan ta tb a b c → PlanReady plan la lb lc
   gemm-runs plan planned = rw planned (gemm-ready ta tb a b c la lb lc (judge-passed _ _ _ (check-done _ r flag answered told passed)))
 
 module _ (K : Kind) (ta tb : Trans) (alpha : K .Elem) (a b : Lent K) (beta : K .Elem) (c : Lent K)
@@ -113,7 +113,7 @@ module _ (t : Trans) (a x y : View) (la lx ly : ℕ) (r : Answer) (flag : Bool)
       let s = gemv-sizes t a x y (judge-passed _ _ _ (check-done _ r flag answered told passed) .shape) in
       rw turned (turned-vectors t a x y (s .0 .shape) (s .1 .shape))
 
-  pub gemv-runs : (plan : Plan) → plan ≡ gemvPlan t a x y → Ready plan la lx ly × (plan .target .cols ≡ 1)
+  pub gemv-runs : (plan : Plan) → plan ≡ gemvPlan t a x y → PlanReady plan la lx ly × (plan .target .cols ≡ 1)
   gemv-runs plan planned = rw planned (gemv-ready t a x y la lx ly (judge-passed _ _ _ (check-done _ r flag answered told passed)), refl)
 
 module _ (K : Kind) (t : Trans) (alpha : K .Elem) (a x : Lent K) (beta : K .Elem) (y : Lent K)
@@ -167,7 +167,7 @@ module _ (K : Kind) (uplo : UpLo) (alpha : K .Elem) (a x : Lent K) (beta : K .El
 
 module _ (t : Trans) (a c : View) (la lc : ℕ) (r : Answer) (flag : Bool)
     (answered : r ≡ syrkCheck t a la c lc) (told : flag ≡ isDone r) (passed : flag ≡ true) where
-  pub syrk-runs : (plan : Plan) → plan ≡ syrkPlan t a c → Ready plan la la lc × (plan .target .rows ≡ plan .target .cols)
+  pub syrk-runs : (plan : Plan) → plan ≡ syrkPlan t a c → PlanReady plan la la lc × (plan .target .rows ≡ plan .target .cols)
   syrk-runs plan planned = let h = judge-passed _ _ _ (check-done _ r flag answered told passed) in
       rw planned (syrk-ready t a c la lc h, target-square t a c la lc h)
 
@@ -190,7 +190,7 @@ module _ (K : Kind) (uplo : UpLo) (t : Trans) (alpha : K .Elem) (a : Lent K) (be
 
 module _ (t : Trans) (a c : View) (la lc : ℕ) (r : Answer) (flag : Bool)
     (answered : r ≡ herkCheck t a la c lc) (told : flag ≡ isDone r) (passed : flag ≡ true) where
-  pub herk-runs : (plan : Plan) → plan ≡ herkPlan t a c → Ready plan la la lc × (plan .target .rows ≡ plan .target .cols)
+  pub herk-runs : (plan : Plan) → plan ≡ herkPlan t a c → PlanReady plan la la lc × (plan .target .rows ≡ plan .target .cols)
   herk-runs plan planned = let h = judge-passed _ _ _ (check-done _ r flag answered told passed) in
       rw planned (herk-ready t a c la lc h, target-square t a c la lc h)
 

@@ -25,7 +25,7 @@ use Rattle.blas.specs.Herk.{herkLeft, herkRight}
 use Rattle.product_plan.specs.declared.plan.Factors.{Factors}
 use Rattle.product_plan.specs.declared.plan.Plan.{Plan}
 use Rattle.product_plan.specs.declared.plan.Folded.{Folded}
-use Rattle.product_plan.specs.Plan.{termsBefore, Reads, FactorsWithin, Ready, FoldedReady, ByRow, LeftWalk, ByCol, RightWalk}
+use Rattle.product_plan.specs.Plan.{termsBefore, Reads, FactorsWithin, PlanReady, FoldedReady, ByRow, LeftWalk, ByCol, RightWalk}
 use Rattle.product_plan.specs.Plans.{opFactors, leftFactors, rightFactors, rowTurn, colTurn, isUpper, leftPlan, rightPlan, gemmPlan, gemvPlan, hemvPlan, syrkPlan, herkPlan, ReadySided}
 
 -- ---- what the engine's steps ask
@@ -35,8 +35,8 @@ spans f la lb m n k r i j from end h g s l =
     record { ordered = s; left = λ p q. r .left i p h (omega arith); right = λ p q. r .right p j (omega arith) g }
 
 -- a loop's slab keeps its length
-pub ready-kept : (plan : Plan) (la lb lc lc' : ℕ) → lc' ≡ lc → Ready plan la lb lc → Ready plan la lb lc'
-ready-kept plan la lb lc lc' e r = subst (λ (k : ℕ). Ready plan la lb k) (sym e) r
+pub ready-kept : (plan : Plan) (la lb lc lc' : ℕ) → lc' ≡ lc → PlanReady plan la lb lc → PlanReady plan la lb lc'
+ready-kept plan la lb lc lc' e r = subst (λ (k : ℕ). PlanReady plan la lb k) (sym e) r
 
 pub folded-kept : (plan : Folded) (la lb lc lc' : ℕ) → lc' ≡ lc → FoldedReady plan la lb lc → FoldedReady plan la lb lc'
 folded-kept plan la lb lc lc' e r = subst (λ (k : ℕ). FoldedReady plan la lb k) (sym e) r
@@ -81,7 +81,7 @@ op-reads ta tb a b la lb m n k fa fb em ek eb en =
     }
 
 pub gemm-ready : (ta tb : Trans) (a b c : View) (la lb lc : ℕ) → Passed (arg a la ∷ arg b lb ∷ arg c lc ∷ []) (gemmShape ta tb a b c) c
-    → Ready (gemmPlan ta tb a b c) la lb lc
+    → PlanReady (gemmPlan ta tb a b c) la lb lc
 gemm-ready ta tb a b c la lb lc h =
     let s = gemm-sizes ta tb a b c (h .shape) in
     record {
@@ -91,7 +91,7 @@ gemm-ready ta tb a b c la lb lc h =
 
 -- the vectors of a call as columns
 pub gemv-ready : (t : Trans) (a x y : View) (la lx ly : ℕ) → Passed (arg a la ∷ arg x lx ∷ arg y ly ∷ []) (gemvShape t a x y) y
-    → Ready (gemvPlan t a x y) la lx ly
+    → PlanReady (gemvPlan t a x y) la lx ly
 gemv-ready t a x y la lx ly h =
     let s = gemv-sizes t a x y (h .shape) in
     let cx = column-accepted x lx (s .0 .vector) (h .each .1 .0) in
@@ -133,14 +133,14 @@ module _ (t : Trans) (a c : View) (la lc : ℕ) (h : Passed (arg a la ∷ arg c 
       let s = syrk-sizes t a c (h .shape) in
       omega arith
 
-  pub syrk-ready : Ready (syrkPlan t a c) la la lc
+  pub syrk-ready : PlanReady (syrkPlan t a c) la la lc
   syrk-ready =
       record {
         target = h .each .1 .0;
         reads = twice (syrkLeft t) (syrkRight t) (syrk-left-rows t a) (syrk-right-rows t a);
       }
 
-  pub herk-ready : Ready (herkPlan t a c) la la lc
+  pub herk-ready : PlanReady (herkPlan t a c) la la lc
   herk-ready =
       record {
         target = h .each .1 .0;

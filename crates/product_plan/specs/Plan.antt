@@ -68,7 +68,7 @@ pub record FactorsWithin (f : Factors) (la lb i j from end : ℕ) : Type 0 where
   pub left : (p : ℕ) → p < end → Within (f .left) la i p
   pub right : (p : ℕ) → p < end → Within (f .right) lb p j
 
-pub record Ready (plan : Plan) (la lb lc : ℕ) : Type 0 where
+pub record PlanReady (plan : Plan) (la lb lc : ℕ) : Type 0 where
   pub target : Accepted (plan .target) lc
   pub reads : Reads (plan .factors) la lb (plan .target .rows) (plan .target .cols) (plan .terms)
 

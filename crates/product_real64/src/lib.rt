@@ -19,7 +19,7 @@ ghost use Rattle.blas.specs.Herk;
 ghost use Rattle.blas.specs.Symm;
 ghost use Rattle.blas.specs.Syrk;
 ghost use Rattle.product_plan.specs.Plans.{ReadySided, sidedWork};
-ghost use Rattle.product_plan.specs.Plan.{term, planChange, foldedChange, foldedProduct, LeftWalk, RightWalk, FactorsWithin, Ready, FoldedReady, ByRow, ByCol};
+ghost use Rattle.product_plan.specs.Plan.{term, planChange, foldedChange, foldedProduct, LeftWalk, RightWalk, FactorsWithin, PlanReady, FoldedReady, ByRow, ByCol};
 use judge::check_gemm;
 use judge::check_gemv;
 use judge::check_hemm;
@@ -108,7 +108,7 @@ fn entry(
     i: usize,
     j: usize,
 )
-    requires { ⌜ Ready plan (real64 .count (now a)) (real64 .count (now b)) (real64 .count (now c)) × (i < plan .target .rows) × (j < plan .target .cols) ⌝ }
+    requires { ⌜ PlanReady plan (real64 .count (now a)) (real64 .count (now b)) (real64 .count (now c)) × (i < plan .target .rows) × (j < plan .target .cols) ⌝ }
     ensures { λ _. ⌜ now (c .exit) ≡ replaced real64 (plan .target) i j (planChange real64 plan (scaleBy64 beta) (real64 .mul (alpha .0)) (now (a .entry)) (now (b .entry)) i j) (now (c .entry)) ⌝ }
 {
     let sum = add_run(plan.factors, a, b, i, j, 0, plan.terms, Real64::ZERO);
@@ -128,7 +128,7 @@ fn two_entries(
     k: usize,
     l: usize,
 )
-    requires { ⌜ Ready plan (real64 .count (now a)) (real64 .count (now b)) (real64 .count (now c)) × (i < plan .target .rows) × (j < plan .target .cols) × (k < plan .target .rows) × (l < plan .target .cols) ⌝ }
+    requires { ⌜ PlanReady plan (real64 .count (now a)) (real64 .count (now b)) (real64 .count (now c)) × (i < plan .target .rows) × (j < plan .target .cols) × (k < plan .target .rows) × (l < plan .target .cols) ⌝ }
     ensures { λ _. ⌜ now (c .exit) ≡ replaced real64 (plan .target) k l (planChange real64 plan (scaleBy64 beta) (real64 .mul (alpha .0)) (now (a .entry)) (now (b .entry)) k l) (replaced real64 (plan .target) i j (planChange real64 plan (scaleBy64 beta) (real64 .mul (alpha .0)) (now (a .entry)) (now (b .entry)) i j) (now (c .entry))) ⌝ }
 {
     let n = plan.terms;
@@ -156,7 +156,7 @@ fn two_entries(
 
 // Row i of the target.
 fn row(plan: Plan, a: &[f64], b: &[f64], alpha: Real64, beta: Beta64, c: &mut [f64], i: usize)
-    requires { ⌜ Ready plan (real64 .count (now a)) (real64 .count (now b)) (real64 .count (now c)) × (i < plan .target .rows) ⌝ }
+    requires { ⌜ PlanReady plan (real64 .count (now a)) (real64 .count (now b)) (real64 .count (now c)) × (i < plan .target .rows) ⌝ }
     ensures { λ _. ⌜ now (c .exit) ≡ updateRow real64 (plan .target) everywhere (planChange real64 plan (scaleBy64 beta) (real64 .mul (alpha .0)) (now (a .entry)) (now (b .entry))) i (plan .target .cols) (now (c .entry)) ⌝ }
 {
     let n = cols(plan.target);
@@ -173,7 +173,7 @@ fn row(plan: Plan, a: &[f64], b: &[f64], alpha: Real64, beta: Beta64, c: &mut [f
 
 // The whole target.
 fn run(plan: Plan, a: &[f64], b: &[f64], alpha: Real64, beta: Beta64, c: &mut [f64])
-    requires { ⌜ Ready plan (real64 .count (now a)) (real64 .count (now b)) (real64 .count (now c)) ⌝ }
+    requires { ⌜ PlanReady plan (real64 .count (now a)) (real64 .count (now b)) (real64 .count (now c)) ⌝ }
     ensures { λ _. ⌜ now (c .exit) ≡ update real64 (plan .target) everywhere (planChange real64 plan (scaleBy64 beta) (real64 .mul (alpha .0)) (now (a .entry)) (now (b .entry))) (now (c .entry)) ⌝ }
 {
     let m = rows(plan.target);
@@ -186,7 +186,7 @@ fn run(plan: Plan, a: &[f64], b: &[f64], alpha: Real64, beta: Beta64, c: &mut [f
 
 // The whole target, which is a column.
 fn run_column(plan: Plan, a: &[f64], b: &[f64], alpha: Real64, beta: Beta64, c: &mut [f64])
-    requires { ⌜ Ready plan (real64 .count (now a)) (real64 .count (now b)) (real64 .count (now c)) × (plan .target .cols ≡ 1) ⌝ }
+    requires { ⌜ PlanReady plan (real64 .count (now a)) (real64 .count (now b)) (real64 .count (now c)) × (plan .target .cols ≡ 1) ⌝ }
     ensures { λ _. ⌜ now (c .exit) ≡ update real64 (plan .target) everywhere (planChange real64 plan (scaleBy64 beta) (real64 .mul (alpha .0)) (now (a .entry)) (now (b .entry))) (now (c .entry)) ⌝ }
 {
     let m = rows(plan.target);
@@ -685,7 +685,7 @@ fn syrk_row(
     c: &mut [f64],
     i: usize,
 )
-    requires { ⌜ Ready plan (real64 .count (now a)) (real64 .count (now b)) (real64 .count (now c)) × (i < plan .target .rows) × (i < plan .target .cols) ⌝ }
+    requires { ⌜ PlanReady plan (real64 .count (now a)) (real64 .count (now b)) (real64 .count (now c)) × (i < plan .target .rows) × (i < plan .target .cols) ⌝ }
     ensures { λ _. ⌜ now (c .exit) ≡ updateRow real64 (plan .target) (inTriangle uplo) (planChange real64 plan (scaleBy64 beta) (real64 .mul (alpha .0)) (now (a .entry)) (now (b .entry))) i (plan .target .cols) (now (c .entry)) ⌝ }
 {
     let end = end_col(uplo, i, cols(plan.target));
@@ -706,7 +706,7 @@ fn run_syrk(
     beta: Beta64,
     c: &mut [f64],
 )
-    requires { ⌜ Ready plan (real64 .count (now a)) (real64 .count (now b)) (real64 .count (now c)) × (plan .target .rows ≡ plan .target .cols) ⌝ }
+    requires { ⌜ PlanReady plan (real64 .count (now a)) (real64 .count (now b)) (real64 .count (now c)) × (plan .target .rows ≡ plan .target .cols) ⌝ }
     ensures { λ _. ⌜ now (c .exit) ≡ update real64 (plan .target) (inTriangle uplo) (planChange real64 plan (scaleBy64 beta) (real64 .mul (alpha .0)) (now (a .entry)) (now (b .entry))) (now (c .entry)) ⌝ }
 {
     let m = rows(plan.target);
@@ -757,7 +757,7 @@ fn herk_row(
     c: &mut [f64],
     i: usize,
 )
-    requires { ⌜ Ready plan (real64 .count (now a)) (real64 .count (now b)) (real64 .count (now c)) × (i < plan .target .rows) × (i < plan .target .cols) ⌝ }
+    requires { ⌜ PlanReady plan (real64 .count (now a)) (real64 .count (now b)) (real64 .count (now c)) × (i < plan .target .rows) × (i < plan .target .cols) ⌝ }
     ensures { λ _. ⌜ now (c .exit) ≡ updateRow real64 (plan .target) (inTriangle uplo) (planChange real64 plan (scaleBy64 beta) (real64 .mul (alpha .0)) (now (a .entry)) (now (b .entry))) i (plan .target .cols) (now (c .entry)) ⌝ }
 {
     let end = end_col(uplo, i, cols(plan.target));
@@ -778,7 +778,7 @@ fn run_herk(
     beta: Beta64,
     c: &mut [f64],
 )
-    requires { ⌜ Ready plan (real64 .count (now a)) (real64 .count (now b)) (real64 .count (now c)) × (plan .target .rows ≡ plan .target .cols) ⌝ }
+    requires { ⌜ PlanReady plan (real64 .count (now a)) (real64 .count (now b)) (real64 .count (now c)) × (plan .target .rows ≡ plan .target .cols) ⌝ }
     ensures { λ _. ⌜ now (c .exit) ≡ update real64 (plan .target) (inTriangle uplo) (planChange real64 plan (scaleBy64 beta) (real64 .mul (alpha .0)) (now (a .entry)) (now (b .entry))) (now (c .entry)) ⌝ }
 {
     let m = rows(plan.target);

@@ -32,7 +32,7 @@ diff-place v r c =
     (omega arith)
 
 -- the element is at no index below 0 and at none past the end
-pub record Inside (v : View) (len r c : ℕ) : Type 0 where
+pub record PlaceInside (v : View) (len r c : ℕ) : Type 0 where
   pub low : below v r c ≤ above v r c
   pub high : above v r c < len + below v r c
 
@@ -65,18 +65,18 @@ at-fits v len h =
     none (v .rows) (λ r. any (v .cols) (λ c. outside len (place v r c)))
     (λ r p. none (v .cols) (λ c. outside len (place v r c)) (λ c q. h r c p q))
 
-pub fits→inside : (v : View) (len : ℕ) → Fits v len → (r c : ℕ) → r < v .rows → c < v .cols → Inside v len r c
+pub fits→inside : (v : View) (len : ℕ) → Fits v len → (r c : ℕ) → r < v .rows → c < v .cols → PlaceInside v len r c
 fits→inside v len h r c p q =
     let w = not-outside len (place v r c) (diff-place v r c) (fits-at v len h r c p q) in
     record { low = w .0; high = w .1 }
 
-pub inside→fits : (v : View) (len : ℕ) → ((r c : ℕ) → r < v .rows → c < v .cols → Inside v len r c) → Fits v len
+pub inside→fits : (v : View) (len : ℕ) → ((r c : ℕ) → r < v .rows → c < v .cols → PlaceInside v len r c) → Fits v len
 inside→fits v len h =
     at-fits v len (λ r c p q. inside-in len (place v r c) (diff-place v r c) (h r c p q .low) (h r c p q .high))
 
 -- ---- for kernels
 
-pub index-is : (v : View) (len r c : ℕ) → Inside v len r c → index v r c + below v r c ≡ above v r c
+pub index-is : (v : View) (len r c : ℕ) → PlaceInside v len r c → index v r c + below v r c ≡ above v r c
 unfolding index
 index-is v len r c h = diff-abs (place v r c) (diff-place v r c) (h .low)
 

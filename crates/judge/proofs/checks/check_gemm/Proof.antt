@@ -5,17 +5,8 @@ use Rattle.judge.proofs.Ops.{quick-gemm-passes-op}
 use Rattle.judge.proofs.checks.check_gemm.Statement.{statement}
 use Rattle.judge.proofs.checks.check_gemm.Tie as tie
 
-gemm-requires : tie.Need-gemm-requires
-gemm-requires c κs = search needs
-
-judge3-requires : tie.Need-judge3-requires
-judge3-requires c κs = search needs
-
 returns : tie.Need-returns
 returns c = sym (quick-gemm-passes-op _ _ _ _ _ _ _ _ (sym (c .before .pre) ∙ c .if1 .taken))
 
-returns-2 : tie.Need-returns-2
-returns-2 c = cc
-
 pub check-gemm-spec : {M : Type 1} → statement M
-check-gemm-spec = tie.close (tie.spec gemm-requires judge3-requires returns returns-2)
+check-gemm-spec = tie.close (tie.spec (search needs) (search needs) returns (λ c. cc))

@@ -5,17 +5,8 @@ use Rattle.judge.proofs.Ops.{quick-gemv-passes-op}
 use Rattle.judge.proofs.checks.check_gemv.Statement.{statement}
 use Rattle.judge.proofs.checks.check_gemv.Tie as tie
 
-gemv-requires : tie.Need-gemv-requires
-gemv-requires c κs = search needs
-
-judge3-requires : tie.Need-judge3-requires
-judge3-requires c κs = search needs
-
 returns : tie.Need-returns
 returns c = sym (quick-gemv-passes-op _ _ _ _ _ _ _ (sym (c .before .pre) ∙ c .if1 .taken))
 
-returns-2 : tie.Need-returns-2
-returns-2 c = cc
-
 pub check-gemv-spec : {M : Type 1} → statement M
-check-gemv-spec = tie.close (tie.spec gemv-requires judge3-requires returns returns-2)
+check-gemv-spec = tie.close (tie.spec (search needs) (search needs) returns (λ c. cc))

@@ -5,17 +5,8 @@ use Rattle.judge.proofs.Passes.{quick-her-passes}
 use Rattle.judge.proofs.checks.check_her.Statement.{statement}
 use Rattle.judge.proofs.checks.check_her.Tie as tie
 
-trmv-requires : tie.Need-trmv-requires
-trmv-requires c κs = search needs
-
-judge2-requires : tie.Need-judge2-requires
-judge2-requires c κs = search needs
-
 returns : tie.Need-returns
 returns c = sym (quick-her-passes _ _ _ _ (sym (c .before .pre) ∙ c .if1 .taken))
 
-returns-2 : tie.Need-returns-2
-returns-2 c = cc
-
 pub check-her-spec : {M : Type 1} → statement M
-check-her-spec = tie.close (tie.spec trmv-requires judge2-requires returns returns-2)
+check-her-spec = tie.close (tie.spec (search needs) (search needs) returns (λ c. cc))

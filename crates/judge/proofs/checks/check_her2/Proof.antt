@@ -5,17 +5,8 @@ use Rattle.judge.proofs.Passes.{quick-her2-passes}
 use Rattle.judge.proofs.checks.check_her2.Statement.{statement}
 use Rattle.judge.proofs.checks.check_her2.Tie as tie
 
-hemv-requires : tie.Need-hemv-requires
-hemv-requires c κs = search needs
-
-judge3-requires : tie.Need-judge3-requires
-judge3-requires c κs = search needs
-
 returns : tie.Need-returns
 returns c = sym (quick-her2-passes _ _ _ _ _ _ (sym (c .before .pre) ∙ c .if1 .taken))
 
-returns-2 : tie.Need-returns-2
-returns-2 c = cc
-
 pub check-her2-spec : {M : Type 1} → statement M
-check-her2-spec = tie.close (tie.spec hemv-requires judge3-requires returns returns-2)
+check-her2-spec = tie.close (tie.spec (search needs) (search needs) returns (λ c. cc))

@@ -5,17 +5,8 @@ use Rattle.judge.proofs.Passes.{quick-symm-passes}
 use Rattle.judge.proofs.checks.check_symm.Statement.{statement}
 use Rattle.judge.proofs.checks.check_symm.Tie as tie
 
-symm-requires : tie.Need-symm-requires
-symm-requires c κs = search needs
-
-judge3-requires : tie.Need-judge3-requires
-judge3-requires c κs = search needs
-
 returns : tie.Need-returns
 returns c = sym (quick-symm-passes _ _ _ _ _ _ _ (sym (c .before .pre) ∙ c .if1 .taken))
 
-returns-2 : tie.Need-returns-2
-returns-2 c = cc
-
 pub check-symm-spec : {M : Type 1} → statement M
-check-symm-spec = tie.close (tie.spec symm-requires judge3-requires returns returns-2)
+check-symm-spec = tie.close (tie.spec (search needs) (search needs) returns (λ c. cc))

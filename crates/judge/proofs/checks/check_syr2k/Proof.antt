@@ -5,17 +5,8 @@ use Rattle.judge.proofs.Passes.{quick-syr2k-passes}
 use Rattle.judge.proofs.checks.check_syr2k.Statement.{statement}
 use Rattle.judge.proofs.checks.check_syr2k.Tie as tie
 
-syr2k-requires : tie.Need-syr2k-requires
-syr2k-requires c κs = search needs
-
-judge3-requires : tie.Need-judge3-requires
-judge3-requires c κs = search needs
-
 returns : tie.Need-returns
 returns c = sym (quick-syr2k-passes _ _ _ _ _ _ _ (sym (c .before .pre) ∙ c .if1 .taken))
 
-returns-2 : tie.Need-returns-2
-returns-2 c = cc
-
 pub check-syr2k-spec : {M : Type 1} → statement M
-check-syr2k-spec = tie.close (tie.spec syr2k-requires judge3-requires returns returns-2)
+check-syr2k-spec = tie.close (tie.spec (search needs) (search needs) returns (λ c. cc))
