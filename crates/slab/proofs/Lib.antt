@@ -2,5 +2,6 @@
 pub mod UpdateLaws
 pub mod LoopLaws
 pub mod Columns
+pub mod EightLaws
 pub mod Shown
 pub mod RunLaws

@@ -3,3 +3,4 @@ pub mod Elem
 pub mod Update
 pub mod Distinct
 pub mod Run
+pub mod Eight

@@ -1,0 +1,42 @@
+-- An array of eight numbers, each replaced in its turn.
+use Prim.Native.Nat.{ℕ, _+_, _≤_, _<_}
+use mathlib.Core.List.{List}
+use mathlib.Core.Path.{_≡_, refl, sym, ap, subst, _∙_}
+use native.Mathlib.Decide.{ℕ-discrete}
+use native.Mathlib.Omega.{arith}
+use Rattle.number.specs.Kind.{Kind}
+use Rattle.number.specs.Laws.{SlabLaws}
+use Rattle.slab.specs.Eight.{Eight}
+
+-- the first t of them are f's, and the others are still as given
+pub record Part (K : Kind) (f : ℕ → K .Elem) (given s : List (K .Cell)) (t : ℕ) : Type 0 where
+  pub within : t ≤ 8
+  pub count : K .count s ≡ 8
+  pub done : (q : ℕ) → q < t → K .at s q ≡ f q
+  pub rest : (q : ℕ) → t ≤ q → K .at s q ≡ K .at given q
+
+module _ (K : Kind) (L : SlabLaws K) (f : ℕ → K .Elem) (given : List (K .Cell)) where
+  pub part-start : K .count given ≡ 8 → Part K f given given 0
+  part-start n = record { within = omega arith; count = n; done = λ q l. absurd (none q l); rest = λ q l. refl }
+    where
+      none : (q : ℕ) → q < 0 → ⊥
+      none q l = omega arith
+
+  pub part-next : (s : List (K .Cell)) (t : ℕ) (x : K .Elem) → t < 8 → Part K f given s t → x ≡ f t → Part K f given (K .put s t x) (t + 1)
+  part-next s t x l h e =
+      record {
+        within = omega arith;
+        count = L .count-put s t x ∙ h .count;
+        done = λ q m. go q m (ℕ-discrete q t);
+        rest = λ q m. L .at-put-other s t q x (λ d. apart q m d) ∙ h .rest q (omega arith);
+      }
+    where
+      apart : (q : ℕ) → t + 1 ≤ q → q ≡ t → ⊥
+      apart q m d = omega arith
+
+      go : (q : ℕ) → q < t + 1 → Dec (q ≡ t) → K .at (K .put s t x) q ≡ f q
+      go q m (yes d) = ap (K .at (K .put s t x)) d ∙ L .at-put s t x (subst (λ (n : ℕ). t < n) (sym (h .count)) l) ∙ e ∙ ap f (sym d)
+      go q m (no d) = L .at-put-other s t q x d ∙ h .done q (omega arith)
+
+  pub part-end : (s : List (K .Cell)) (t : ℕ) → 8 ≤ t → Part K f given s t → Eight K s f
+  part-end s t l h = record { count = h .count; sum = λ q m. h .done q (omega arith) }

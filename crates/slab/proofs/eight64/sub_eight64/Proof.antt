@@ -1,0 +1,53 @@
+-- Each sum in its turn (EightLaws).
+use Prim.Native.Nat.{_+_, _-_}
+use mathlib.Core.Path.{_≡_, ap, _∙_}
+use native.Mathlib.Omega.{arith}
+use lib.Ieee.{binary64}
+use borrow.Kind.Array.{good-length, eFloat}
+use Rattle.number.specs.Kind.{real64}
+use Rattle.number.proofs.SlabLaws.{real-slab}
+use Rattle.slab.specs.Elem.{elem, Within}
+use Rattle.slab.proofs.EightLaws.{Part, part-start, part-next, part-end}
+use Rattle.slab.proofs.eight64.sub_eight64.Statement.{statement}
+use Rattle.slab.proofs.eight64.sub_eight64.Tie as tie
+
+abbrev Inv-loop : tie.InvT-loop
+Inv-loop x s v p j next₀ t₀ next t = Part real64 (λ q. real64 .sub (real64 .at next₀ q) (real64 .mul (x .0) (elem real64 s v p (j + q)))) next₀ next t
+
+abbrev μ-loop : tie.MeasureT-loop
+μ-loop x s v p j next₀ t₀ next t = 8 - t
+
+loop-holds : tie.Need-loop-holds Inv-loop μ-loop
+loop-holds c = part-start real64 (real-slab binary64) _ _ (good-length (eFloat binary64) 8 (c .before .args .sums) _ (c .before .good .1 .1 .1 .1 .1 .0))
+
+elem64-requires : tie.Need-elem64-requires Inv-loop μ-loop
+elem64-requires c κs = let h = c .before .before .before .pre in record { fits = h .fits; row = h .row; col = omega (arith, h .col) }
+
+loop-again : tie.Need-loop-again Inv-loop μ-loop
+loop-again c =
+    let l = c .before .before .before .before .loop in
+    part-next real64 (real-slab binary64) _ _ (l .next) (l .t) _ (omega arith) (l .inv)
+    (c .sub .ensures ∙ (λ i. real64 .sub (l .inv .rest (l .t) (omega arith) i) ((c .before .mul .ensures ∙ ap (real64 .mul (c .before .before .before .before .before .before .args .x .0)) (c .before .before .elem64 .ensures)) i)))
+
+returns : tie.Need-returns Inv-loop μ-loop
+returns c = let l = c .before .loop in part-end real64 (real-slab binary64) _ _ (l .next) (l .t) (omega arith) (l .inv)
+
+pub sub-eight64-spec : {M : Type 1} → statement M
+sub-eight64-spec =
+    tie.close
+    (tie.spec
+    Inv-loop
+    μ-loop
+    loop-holds
+    (λ c. omega arith)
+    (λ c. omega arith)
+    (λ c. omega arith)
+    elem64-requires
+    (λ c κs. tt)
+    (λ c κs. tt)
+    (λ c. omega arith)
+    (λ c. omega arith)
+    (λ c. omega arith)
+    (λ c. omega arith)
+    loop-again
+    returns)
