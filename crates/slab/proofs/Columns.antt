@@ -13,9 +13,9 @@ use Rattle.view.specs.declared.UpLo.the-variants.{Upper, Lower}
 use Rattle.view.specs.Place.{index}
 use Rattle.view.specs.Triangle.{inTriangle, firstCol, endCol}
 use Rattle.slab.specs.Elem.{elem}
-use Rattle.slab.specs.Update.{Mask, Change, Columns, updateRow}
+use Rattle.slab.specs.Update.{Mask, Change, Columns, updateRow, span}
 use Rattle.slab.proofs.UpdateLaws.{row-both, row-start}
-use Rattle.slab.proofs.LoopLaws.{row-skip, span}
+use Rattle.slab.proofs.LoopLaws.{row-skip}
 
 -- ---- a loop from column a on ends where the written columns do; u′ says of each element what u says
 

@@ -10,8 +10,8 @@ use Rattle.number.specs.Kind.{Kind}
 use Rattle.view.specs.declared.View.{View}
 use Rattle.view.specs.Place.{index}
 use Rattle.slab.specs.Elem.{elem}
-use Rattle.slab.specs.Update.{Mask, Change, updateOne, updateRow, updateRows, update}
-use Rattle.slab.proofs.UpdateLaws.{row-both, row-start, row-step, rows-step}
+use Rattle.slab.specs.Update.{Mask, Change, everywhere, updateOne, updateRow, updateRows, span, spanRows, update, replaced}
+use Rattle.slab.proofs.UpdateLaws.{row-both, rows-both, row-start, row-step, rows-start, rows-step}
 
 module _ (K : Kind) (v : View) (mask : Mask) (u : Change K) (s₀ s : List (K .Cell)) where
   -- element (i, j) after the j elements of row i before it
@@ -55,12 +55,69 @@ module _ (K : Kind) (v : View) (mask : Mask) (u : Change K) (i : ℕ) where
 
 -- from column a on: it begins at a, and goes on by one
 module _ (K : Kind) (v : View) (u : Change K) (i : ℕ) where
-  abbrev pub span : ℕ → ℕ → List (K .Cell) → List (K .Cell)
-  span a n s = updateRow K v (λ r j. leb a j) u i n s
-
-  pub span-start : (a : ℕ) (s : List (K .Cell)) → s ≡ span a a s
+  pub span-start : (a : ℕ) (s : List (K .Cell)) → s ≡ span K v u i a a s
   span-start a s =
       sym (row-skip K v (λ r j. leb a j) u i 0 a (omega arith) (λ j l g. lt-leb a j g) s ∙ row-start K v (λ r j. leb a j) u s i)
 
-  pub span-next : (a j : ℕ) (s₀ s t : List (K .Cell)) → a ≤ j → s ≡ span a j s₀ → t ≡ K .put s (index v i j) (u i j (elem K s v i j)) → t ≡ span a (j + 1) s₀
+  pub span-next : (a j : ℕ) (s₀ s t : List (K .Cell)) → a ≤ j → s ≡ span K v u i a j s₀ → t ≡ K .put s (index v i j) (u i j (elem K s v i j)) → t ≡ span K v u i a (j + 1) s₀
   span-next a j s₀ s t h p q = put-next K v (λ r j. leb a j) u i j s₀ s t (le-leb a j h) p q
+
+  -- after the columns before a, those from a on
+  pub span-after : (mask : Mask) (a n : ℕ) (s₀ s t : List (K .Cell)) → a ≤ n → ((j : ℕ) → a ≤ j → j < n → mask i j ≡ true)
+      → s ≡ updateRow K v mask u i a s₀ → t ≡ span K v u i a n s → t ≡ updateRow K v mask u i n s₀
+  span-after mask a n s₀ s t h m p q =
+      q
+      ∙ row-both K v (λ r j. leb a j) mask u u (λ x y. x ≡ y) i a n h
+      (λ j l g. (le-leb a j l ∙ sym (m j l g), λ o x y e. ap (λ (z : List (K .Cell)). replaced K v i j (u i j) z) e))
+      s
+      s₀
+      (sym (span-start a s) ∙ p)
+
+  -- what becomes of an element may be said in another way
+  pub span-same : (u′ : Change K) (a n : ℕ) (s : List (K .Cell)) → a ≤ n → ((j : ℕ) → a ≤ j → j < n → (x : K .Elem) → u i j x ≡ u′ i j x)
+      → span K v u i a n s ≡ span K v u′ i a n s
+  span-same u′ a n s h e =
+      row-both K v (λ r j. leb a j) (λ r j. leb a j) u u′ (λ x y. x ≡ y) i a n h
+      (λ j l g. (refl, λ o x y d. ap (λ (z : List (K .Cell)). replaced K v i j (u i j) z) d ∙ ap (K .put y (index v i j)) (e j l g (elem K y v i j))))
+      s
+      s
+      (sym (span-start a s) ∙ span-start′ u′ a s)
+    where
+      span-start′ : (w : Change K) (b : ℕ) (r : List (K .Cell)) → r ≡ span K v w i b b r
+      span-start′ w b r =
+          sym (row-skip K v (λ r j. leb b j) w i 0 b (omega arith) (λ j l g. lt-leb b j g) r ∙ row-start K v (λ r j. leb b j) w r i)
+
+-- ---- rows from row a on, of a target of one column
+
+module _ (K : Kind) (v : View) (u : Change K) (one : v .cols ≡ 1) where
+  -- a row is its one element
+  row-one : (mask : Mask) (i : ℕ) (s t : List (K .Cell)) → mask i 0 ≡ true → t ≡ replaced K v i 0 (u i 0) s → t ≡ updateRow K v mask u i (v .cols) s
+  row-one mask i s t m q = subst (λ (n : ℕ). t ≡ updateRow K v mask u i n s) (sym one) (put-next K v mask u i 0 s s t m (sym (row-start K v mask u s i)) q)
+
+  pub column-next : (i : ℕ) (s₀ s t : List (K .Cell)) → s ≡ updateRows K v everywhere u i s₀ → t ≡ replaced K v i 0 (u i 0) s → t ≡ updateRows K v everywhere u (i + 1) s₀
+  column-next i s₀ s t p q = rows-next K v everywhere u s₀ s i t p (row-one everywhere i s t refl q)
+
+  pub rows-span-start : (a : ℕ) (s : List (K .Cell)) → s ≡ spanRows K v u a a s
+  rows-span-start a s =
+      sym
+      (rows-both K v (λ r j. leb a r) (λ r j. leb a r) u u (λ x y. x ≡ s) 0 a (omega arith)
+      (λ i l g j c. (refl, λ m x y e. absurd (true≢false (sym m ∙ lt-leb a i g))))
+      s
+      s
+      (rows-start K v (λ r j. leb a r) u s))
+
+  pub rows-span-next : (a i : ℕ) (s₀ s t : List (K .Cell)) → a ≤ i → s ≡ spanRows K v u a i s₀ → t ≡ replaced K v i 0 (u i 0) s → t ≡ spanRows K v u a (i + 1) s₀
+  rows-span-next a i s₀ s t h p q = rows-next K v (λ r j. leb a r) u s₀ s i t p (row-one (λ r j. leb a r) i s t (le-leb a i h) q)
+
+  -- after the rows before a, those from a on, where u′ says of each element what u says
+  pub rows-span-after : (u′ : Change K) (a n : ℕ) (s₀ s t : List (K .Cell)) → a ≤ n → ((i : ℕ) → a ≤ i → i < n → (x : K .Elem) → u i 0 x ≡ u′ i 0 x)
+      → s ≡ updateRows K v everywhere u′ a s₀ → t ≡ spanRows K v u a n s → t ≡ updateRows K v everywhere u′ n s₀
+  rows-span-after u′ a n s₀ s t h e p q =
+      q
+      ∙ rows-both K v (λ r j. leb a r) everywhere u u′ (λ x y. x ≡ y) a n h
+      (λ i l g j c. let z : 0 ≡ j = omega arith in
+      subst (λ (k : ℕ). (leb a i ≡ true) × (leb a i ≡ true → (x y : List (K .Cell)) → x ≡ y → replaced K v i k (u i k) x ≡ replaced K v i k (u′ i k) y)) z
+      (le-leb a i l, λ m x y d. ap (λ (w : List (K .Cell)). replaced K v i 0 (u i 0) w) d ∙ ap (K .put y (index v i 0)) (e i l g (elem K y v i 0))))
+      s
+      s₀
+      (sym (rows-span-start a s) ∙ p)

@@ -29,6 +29,10 @@ module _ (K : Kind) (v : View) (mask : Mask) (u : Change K) (s : List (K .Cell))
   unfolding updateRow
   row-step i j = rw add-one
 
+  pub rows-start : updateRows K v mask u 0 s ≡ s
+  unfolding updateRows
+  rows-start = refl
+
   pub rows-step : (i : ℕ) → updateRows K v mask u (i + 1) s ≡ updateRow K v mask u i (v .cols) (updateRows K v mask u i s)
   unfolding updateRows
   rows-step i = rw add-one

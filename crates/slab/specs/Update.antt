@@ -4,7 +4,7 @@ use mathlib.Core.Path.{_≡_}
 use Prim.Native.Nat.{ℕ, zero, suc, _≤_, _<_}
 use mathlib.Core.Bool.{Bool, true, cond, _&&_, _||_, false}
 use mathlib.Core.List.{List}
-use lib.Dec.{ltb, eqb}
+use lib.Dec.{ltb, leb, eqb}
 use Rattle.number.specs.Kind.{Kind}
 use Rattle.view.specs.declared.View.{View}
 use Rattle.view.specs.Place.{index}
@@ -38,6 +38,13 @@ updateRow K v mask u i (suc j) s = updateOne K v mask u i j (updateRow K v mask 
 unfoldable pub updateRows : (K : Kind) → View → Mask → Change K → ℕ → List (K .Cell) → List (K .Cell)
 updateRows K v mask u zero s = s
 updateRows K v mask u (suc i) s = updateRow K v mask u i (v .cols) (updateRows K v mask u i s)
+
+-- the elements of row i from column a to before column n, and the rows from a to before n
+abbrev pub span : (K : Kind) → View → Change K → ℕ → ℕ → ℕ → List (K .Cell) → List (K .Cell)
+span K v u i a n s = updateRow K v (λ r j. leb a j) u i n s
+
+abbrev pub spanRows : (K : Kind) → View → Change K → ℕ → ℕ → List (K .Cell) → List (K .Cell)
+spanRows K v u a n s = updateRows K v (λ r j. leb a r) u n s
 
 -- every element
 abbrev pub update : (K : Kind) → View → Mask → Change K → List (K .Cell) → List (K .Cell)
