@@ -1,6 +1,6 @@
 -- The laws of plans, over any number kind, and why a call that its check passes is ready.
 pub mod Sums
-pub mod Walk
+pub mod Eights
 pub mod Rows
 pub mod Products
 pub mod Ready

@@ -12,8 +12,8 @@ use Rattle.view.specs.declared.Side.the-variants.{Left, Right}
 use Rattle.view.specs.declared.UpLo.{UpLo}
 use Rattle.view.specs.declared.UpLo.the-variants.{Upper, Lower}
 use Rattle.view.specs.Steps.{Accepted}
-use Rattle.view.specs.Place.{index, opViewOf}
-use Rattle.view.specs.TransposeLaws.{transposed-index, transposed-accepted}
+use Rattle.view.specs.Place.{opViewOf}
+use Rattle.view.specs.TransposeLaws.{transposed-accepted}
 use Rattle.view.specs.Judge.{arg}
 use Rattle.view.specs.Checks.{opRows, opCols, gemvShape, hemvShape, gemmShape, symmShape, syrkShape}
 use Rattle.view.specs.JudgeLaws.{Passed, gemv-sizes, hemv-sizes, gemm-sizes, symm-sizes, syrk-sizes}
@@ -25,7 +25,9 @@ use Rattle.blas.specs.Herk.{herkLeft, herkRight}
 use Rattle.product_plan.specs.declared.plan.Factors.{Factors}
 use Rattle.product_plan.specs.declared.plan.Plan.{Plan}
 use Rattle.product_plan.specs.declared.plan.Folded.{Folded}
-use Rattle.product_plan.specs.Plan.{termsBefore, Reads, FactorsWithin, PlanReady, FoldedReady, ByRow, LeftWalk, ByCol, RightWalk}
+use Rattle.product_plan.specs.declared.plan.Turn.{Turn}
+use Rattle.product_plan.specs.declared.plan.Turn.the-variants.{AtRow, PastRow, AtCol, PastCol}
+use Rattle.product_plan.specs.Plan.{termsBefore, Reads, FactorsWithin, PlanReady, FoldedReads, FoldedReady, Turns, ByRow}
 use Rattle.product_plan.specs.Plans.{opFactors, leftFactors, rightFactors, rowTurn, colTurn, isUpper, leftPlan, rightPlan, gemmPlan, gemvPlan, hemvPlan, syrkPlan, herkPlan, ReadySided}
 
 -- ---- what the engine's steps ask
@@ -41,28 +43,34 @@ ready-kept plan la lb lc lc' e r = subst (λ (k : ℕ). PlanReady plan la lb k) 
 pub folded-kept : (plan : Folded) (la lb lc lc' : ℕ) → lc' ≡ lc → FoldedReady plan la lb lc → FoldedReady plan la lb lc'
 folded-kept plan la lb lc lc' e r = subst (λ (k : ℕ). FoldedReady plan la lb k) (sym e) r
 
--- the terms of an element, walked
-module _ (plan : Folded) (la lb lc i j : ℕ) (r : FoldedReady plan la lb lc) (h : i < plan .target .rows) (g : j < plan .target .cols) where
-  pub left-walk : ByRow plan → LeftWalk plan la lb i j
-  left-walk b =
-      let w = b .within i h in
-      record {
-        by-row = b;
-        some = omega arith;
-        head = λ p l. r .head .left i p h l;
-        tail = λ p l. r .tail .left i p h l;
-        right = λ p l. r .head .right p j l g;
-      }
+-- the first terms of element (i, j + t), where those of (i, j + 7) are inside
+pub nearer : (f : Factors) (la lb i j from end : ℕ) → FactorsWithin f la lb i (j + 7) from end → (t from′ end′ : ℕ) → t < 8 → from′ ≤ end′ → end′ ≤ end → FactorsWithin f la lb i (j + t) from′ end′
+nearer f la lb i j from end r t from′ end′ h g l =
+    record {
+      ordered = g;
+      left = λ p q. r .left p (omega arith);
+      right = λ p q. let w = r .right p (omega arith) in record { fits = w .fits; row = w .row; col = omega (arith, w .col) };
+    }
 
-  pub right-walk : ByCol plan → RightWalk plan la lb i j
-  right-walk b =
-      let w = b .within j g in
+-- an element further on turns no earlier
+turn-later : (turn : Turn) (i j k : ℕ) → j ≤ k → termsBefore turn i j ≤ termsBefore turn i k
+turn-later AtRow i j k h = omega arith
+turn-later PastRow i j k h = omega arith
+turn-later AtCol i j k h = omega arith
+turn-later PastCol i j k h = omega arith
+
+-- eight elements of a folded plan turn between the first one's turn and the last one's
+module _ (plan : Folded) (la lb i j : ℕ) (r : FoldedReads plan la lb) (h : i < plan .target .rows) (g : j + 8 ≤ plan .target .cols) where
+  pub eight-turns : (k l : ℕ) → k ≡ termsBefore (plan .turn) i j → l ≡ termsBefore (plan .turn) i (j + 7) → Turns plan la lb i j k l
+  eight-turns k l ek el =
+      let order = turn-later (plan .turn) i j (j + 7) (omega arith) in
+      let last = r .turns i (j + 7) h (omega arith) in
       record {
-        by-col = b;
-        some = omega arith;
-        head = λ p l. r .head .right p j l g;
-        tail = λ p l. r .tail .right p j l g;
-        left = λ p l. r .head .left i p h l;
+        head = spans _ _ _ _ _ _ (r .head) i (j + 7) k l h (omega arith) (omega arith) (omega arith);
+        tail = spans _ _ _ _ _ _ (r .tail) i (j + 7) k l h (omega arith) (omega arith) (omega arith);
+        low = λ t q. omega (arith, ek, turn-later (plan .turn) i j (j + t) (omega arith));
+        high = λ t q. omega (arith, el, turn-later (plan .turn) i (j + t) (j + 7) (omega arith));
+        room = omega arith;
       }
 
 -- ---- op(A) op(B)
@@ -157,39 +165,7 @@ row-same : (uplo : UpLo) (i j : ℕ) → termsBefore (rowTurn uplo) i 0 ≡ term
 row-same Upper i j = refl
 row-same Lower i j = refl
 
-row-low : (uplo : UpLo) (i j : ℕ) → i ≤ termsBefore (rowTurn uplo) i j
-row-low Upper i j = omega arith
-row-low Lower i j = omega arith
-
-row-high : (uplo : UpLo) (i j : ℕ) → termsBefore (rowTurn uplo) i j ≤ i + 1
-row-high Upper i j = omega arith
-row-high Lower i j = omega arith
-
-col-low : (uplo : UpLo) (i j : ℕ) → j ≤ termsBefore (colTurn uplo) i j
-col-low Upper i j = omega arith
-col-low Lower i j = omega arith
-
-col-high : (uplo : UpLo) (i j : ℕ) → termsBefore (colTurn uplo) i j ≤ j + 1
-col-high Upper i j = omega arith
-col-high Lower i j = omega arith
-
 module _ (conj : Bool) (a b : View) where
-  left-meet : (uplo : UpLo) (i : ℕ) → index (leftFactors (isUpper uplo) conj a b .left) i i ≡ index (leftFactors (not (isUpper uplo)) conj a b .left) i i
-  left-meet Upper i = transposed-index a i i
-  left-meet Lower i = sym (transposed-index a i i)
-
-  left-right : (uplo : UpLo) → leftFactors (not (isUpper uplo)) conj a b .right ≡ leftFactors (isUpper uplo) conj a b .right
-  left-right Upper = refl
-  left-right Lower = refl
-
-  right-meet : (uplo : UpLo) (j : ℕ) → index (rightFactors (not (isUpper uplo)) conj a b .right) j j ≡ index (rightFactors (isUpper uplo) conj a b .right) j j
-  right-meet Upper j = sym (transposed-index a j j)
-  right-meet Lower j = transposed-index a j j
-
-  right-left : (uplo : UpLo) → rightFactors (isUpper uplo) conj a b .left ≡ rightFactors (not (isUpper uplo)) conj a b .left
-  right-left Upper = refl
-  right-left Lower = refl
-
   left-plain : (mirrored : Bool) → leftFactors mirrored conj a b .«right_conj» ≡ false
   left-plain true = refl
   left-plain false = refl
@@ -229,18 +205,13 @@ module _ (conj : Bool) (uplo : UpLo) (a b c : View) (la lb lc k : ℕ) (fa : Acc
   left-ready ek br bc =
       let r : (mirrored : Bool) → Reads (leftFactors mirrored conj a b) la lb (c .rows) (c .cols) k =
       λ m. subst (λ (z : ℕ). Reads (leftFactors m conj a b) la lb z (c .cols) k) (sym ek) (left-reads conj a b la lb fa fb k er ec (c .cols) br bc m) in
-      record { target = fc; head = r (isUpper uplo); tail = r (not (isUpper uplo)); turns = λ i j h g. row-turns uplo i j k (omega arith) }
+      record { target = fc; reads = record { head = r (isUpper uplo); tail = r (not (isUpper uplo)); turns = λ i j h g. row-turns uplo i j k (omega arith) } }
 
   left-by-row : c .rows ≡ k → ByRow (leftPlan conj uplo a b k c)
   left-by-row ek =
       record {
         same = row-same uplo;
         room = λ i h. row-turns uplo i 0 k (omega arith);
-        within = λ i h. omega arith;
-        low = row-low uplo;
-        high = row-high uplo;
-        meet = left-meet conj a b uplo;
-        right = left-right conj a b uplo;
         head-plain = left-plain conj a b (isUpper uplo);
         tail-plain = left-plain conj a b (not (isUpper uplo));
       }
@@ -249,17 +220,7 @@ module _ (conj : Bool) (uplo : UpLo) (a b c : View) (la lb lc k : ℕ) (fa : Acc
   right-ready ek br bc =
       let r : (mirrored : Bool) → Reads (rightFactors mirrored conj a b) lb la (c .rows) (c .cols) k =
       λ m. subst (λ (z : ℕ). Reads (rightFactors m conj a b) lb la (c .rows) z k) (sym ek) (right-reads conj a b la lb fa fb k er ec (c .rows) br bc m) in
-      record { target = fc; head = r (not (isUpper uplo)); tail = r (isUpper uplo); turns = λ i j h g. col-turns uplo i j k (omega arith) }
-
-  right-by-col : c .cols ≡ k → ByCol (rightPlan conj uplo a b k c)
-  right-by-col ek =
-      record {
-        within = λ j h. omega arith;
-        low = col-low uplo;
-        high = col-high uplo;
-        meet = right-meet conj a b uplo;
-        left = right-left conj a b uplo;
-      }
+      record { target = fc; reads = record { head = r (not (isUpper uplo)); tail = r (isUpper uplo); turns = λ i j h g. col-turns uplo i j k (omega arith) } }
 
 pub hemv-ready : (uplo : UpLo) (a x y : View) (la lx ly : ℕ) → Passed (arg a la ∷ arg x lx ∷ arg y ly ∷ []) (hemvShape a x y) y
     → FoldedReady (hemvPlan uplo a x y) la lx ly × ByRow (hemvPlan uplo a x y)
@@ -279,7 +240,5 @@ sided-ready Left conj uplo a b c la lb lc h =
       left-by-row conj uplo a b c la lb lc (c .rows) (h .each .0) (h .each .1 .0) (h .each .1 .1 .0) (s .0) (s .1) refl,
     )
 sided-ready Right conj uplo a b c la lb lc h =
-    let s = symm-sizes Right a b c (h .shape) in (
-      right-ready conj uplo a b c la lb lc (c .cols) (h .each .0) (h .each .1 .0) (h .each .1 .1 .0) (s .0) (s .1) refl (s .2) (s .3),
-      right-by-col conj uplo a b c la lb lc (c .cols) (h .each .0) (h .each .1 .0) (h .each .1 .1 .0) (s .0) (s .1) refl,
-    )
+    let s = symm-sizes Right a b c (h .shape) in
+    right-ready conj uplo a b c la lb lc (c .cols) (h .each .0) (h .each .1 .0) (h .each .1 .1 .0) (s .0) (s .1) refl (s .2) (s .3)

@@ -37,6 +37,23 @@ module _ (K : Kind) (f : ℕ → K .Elem) where
       let q : p ≡ end = omega arith in
       subst (λ (m : ℕ). y ≡ plusTerms K x f from (m - from)) q e
 
+  -- one run after another is one
+  more-more : (x : K .Elem) (from m n : ℕ) → plusTerms K (plusTerms K x f from m) f (from + m) n ≡ plusTerms K x f from (m + n)
+  unfolding plusTerms
+  more-more x from m zero =
+      let e : m ≡ m + 0 = omega arith in
+      ap (λ (k : ℕ). plusTerms K x f from k) e
+  more-more x from m (suc n) =
+      let e : suc (m + n) ≡ m + suc n = omega arith in
+      let d : from + m + n ≡ from + (m + n) = omega arith in
+      (λ t. K .add (more-more x from m n t) (f (d t))) ∙ ap (λ (k : ℕ). plusTerms K x f from k) e
+
+  pub plus-join : (x : K .Elem) (from k end : ℕ) → from ≤ k → k ≤ end → plusTerms K (plusTerms K x f from (k - from)) f k (end - k) ≡ plusTerms K x f from (end - from)
+  plus-join x from k end h g =
+      let e : k ≡ from + (k - from) = omega arith in
+      let d : (k - from) + (end - k) ≡ end - from = omega arith in
+      ap (λ (z : ℕ). plusTerms K (plusTerms K x f from (k - from)) f z (end - k)) e ∙ more-more x from (k - from) (end - k) ∙ ap (λ (z : ℕ). plusTerms K x f from z) d
+
   -- terms added to a sum are a longer sum
   more-sum : (from n : ℕ) → plusTerms K (sum K from f) f from n ≡ sum K (from + n) f
   unfolding plusTerms sum

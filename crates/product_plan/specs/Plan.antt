@@ -1,13 +1,12 @@
 -- The product that all seven routines are: where its factors are read, which elements it writes, and what it leaves.
-use Prim.Native.Nat.{ℕ, _+_, _-_, _^_, _≤_, _<_}
-use mathlib.Core.Bool.{true, false, cond}
+use Prim.Native.Nat.{ℕ, _+_, _-_, _≤_, _<_}
+use mathlib.Core.Bool.{false, cond}
 use mathlib.Core.List.{List}
 use mathlib.Core.Path.{_≡_}
 use lib.Dec.{ltb}
 use Rattle.number.specs.Kind.{Kind}
-use Rattle.view.specs.Place.{index}
 use Rattle.view.specs.Steps.{Accepted}
-use Rattle.slab.specs.Run.{elemConj}
+use Rattle.slab.specs.Run.{elemConj, plusTerms}
 use Rattle.slab.specs.Elem.{Within}
 use Rattle.slab.specs.Update as Update
 use Rattle.blas.specs.Matrix.{Matrix, sum, accumulate}
@@ -49,11 +48,17 @@ planChange K plan byBeta byAlpha a b = accumulate K byBeta byAlpha (product K pl
 abbrev pub foldedChange : (K : Kind) → Folded → (K .Elem → K .Elem) → (K .Elem → K .Elem) → List (K .Cell) → List (K .Cell) → Update.Change K
 foldedChange K plan byBeta byAlpha a b = accumulate K byBeta byAlpha (foldedProduct K plan a b)
 
--- ---- a row or a column walked by adding to a place, modulo 2^64
+-- element (i, j)'s terms from `from` to before `end`, among which it turns, added to x
+abbrev pub turnedSum : (K : Kind) → Folded → List (K .Cell) → List (K .Cell) → ℕ → ℕ → ℕ → ℕ → K .Elem → K .Elem
+turnedSum K plan a b i j from end x =
+    plusTerms K (plusTerms K x (term K (plan .head) a b i j) from (termsBefore (plan .turn) i j - from)) (term K (plan .tail) a b i j) (termsBefore (plan .turn) i j) (end - termsBefore (plan .turn) i j)
 
--- what is added to the place of term p, where the stride changes at term i
-abbrev pub bentStep : ℕ → ℕ → ℕ → ℕ → ℕ
-bentStep before after i p = cond (ltb p i) before after
+-- of n columns, or rows, the eight from `from` on have those from `first` to before `end`
+pub record Block (from first end n : ℕ) : Type 0 where
+  pub begins : from ≤ first
+  pub ordered : first ≤ end
+  pub ends : end ≤ from + 8
+  pub within : from + 8 ≤ n
 
 -- ---- what the engine asks of its caller: that it reads and writes inside the slabs, of la, lb and lc elements
 
@@ -72,45 +77,26 @@ pub record PlanReady (plan : Plan) (la lb lc : ℕ) : Type 0 where
   pub target : Accepted (plan .target) lc
   pub reads : Reads (plan .factors) la lb (plan .target .rows) (plan .target .cols) (plan .terms)
 
-pub record FoldedReady (plan : Folded) (la lb lc : ℕ) : Type 0 where
-  pub target : Accepted (plan .target) lc
+pub record FoldedReads (plan : Folded) (la lb : ℕ) : Type 0 where
   pub head : Reads (plan .head) la lb (plan .target .rows) (plan .target .cols) (plan .terms)
   pub tail : Reads (plan .tail) la lb (plan .target .rows) (plan .target .cols) (plan .terms)
   pub turns : (i j : ℕ) → i < plan .target .rows → j < plan .target .cols → termsBefore (plan .turn) i j ≤ plan .terms
 
--- the left operand is folded: the turn is the same in all columns of a row, at the diagonal or past it, and both ways of reading the row
--- meet there; the right operand is read in one way, as it is
+pub record FoldedReady (plan : Folded) (la lb lc : ℕ) : Type 0 where
+  pub target : Accepted (plan .target) lc
+  pub reads : FoldedReads plan la lb
+
+-- the eight elements from (i, j) on turn among the terms from `from` to before `end`, which are inside the slabs
+pub record Turns (plan : Folded) (la lb i j from end : ℕ) : Type 0 where
+  pub head : FactorsWithin (plan .head) la lb i (j + 7) from end
+  pub tail : FactorsWithin (plan .tail) la lb i (j + 7) from end
+  pub low : (t : ℕ) → t < 8 → from ≤ termsBefore (plan .turn) i (j + t)
+  pub high : (t : ℕ) → t < 8 → termsBefore (plan .turn) i (j + t) ≤ end
+  pub room : end ≤ plan .terms
+
+-- the left operand is folded: the turn is the same in all columns of a row; no right factor is conjugated
 pub record ByRow (plan : Folded) : Type 0 where
   pub same : (i j : ℕ) → termsBefore (plan .turn) i 0 ≡ termsBefore (plan .turn) i j
   pub room : (i : ℕ) → i < plan .target .rows → termsBefore (plan .turn) i 0 ≤ plan .terms
-  pub within : (i : ℕ) → i < plan .target .rows → i < plan .terms
-  pub low : (i j : ℕ) → i ≤ termsBefore (plan .turn) i j
-  pub high : (i j : ℕ) → termsBefore (plan .turn) i j ≤ i + 1
-  pub meet : (i : ℕ) → index (plan .head .left) i i ≡ index (plan .tail .left) i i
-  pub right : plan .tail .right ≡ plan .head .right
   pub head-plain : plan .head .«right_conj» ≡ false
   pub tail-plain : plan .tail .«right_conj» ≡ false
-
--- the terms of element (i, j) of such a plan are inside the slabs, and there are some
-pub record LeftWalk (plan : Folded) (la lb i j : ℕ) : Type 0 where
-  pub by-row : ByRow plan
-  pub some : 0 < plan .terms
-  pub head : (p : ℕ) → p < plan .terms → Within (plan .head .left) la i p
-  pub tail : (p : ℕ) → p < plan .terms → Within (plan .tail .left) la i p
-  pub right : (p : ℕ) → p < plan .terms → Within (plan .head .right) lb p j
-
--- the right operand is folded: the turn of column j is at the diagonal or past it, and both ways of reading the column meet there; the
--- left operand is read in one way
-pub record ByCol (plan : Folded) : Type 0 where
-  pub within : (j : ℕ) → j < plan .target .cols → j < plan .terms
-  pub low : (i j : ℕ) → j ≤ termsBefore (plan .turn) i j
-  pub high : (i j : ℕ) → termsBefore (plan .turn) i j ≤ j + 1
-  pub meet : (j : ℕ) → index (plan .head .right) j j ≡ index (plan .tail .right) j j
-  pub left : plan .tail .left ≡ plan .head .left
-
-pub record RightWalk (plan : Folded) (la lb i j : ℕ) : Type 0 where
-  pub by-col : ByCol plan
-  pub some : 0 < plan .terms
-  pub head : (p : ℕ) → p < plan .terms → Within (plan .head .right) lb p j
-  pub tail : (p : ℕ) → p < plan .terms → Within (plan .tail .right) lb p j
-  pub left : (p : ℕ) → p < plan .terms → Within (plan .head .left) la i p

@@ -21,7 +21,7 @@ use Rattle.product_plan.specs.declared.plan.Turn.{Turn}
 use Rattle.product_plan.specs.declared.plan.Turn.the-variants.{AtRow, PastRow, AtCol, PastCol}
 use Rattle.product_plan.specs.declared.plan.Plan.{Plan}
 use Rattle.product_plan.specs.declared.plan.Folded.{Folded}
-use Rattle.product_plan.specs.Plan.{foldedChange, FoldedReady, ByRow, ByCol}
+use Rattle.product_plan.specs.Plan.{foldedChange, FoldedReady, ByRow}
 
 -- ---- op(A) op(B)
 
@@ -100,4 +100,4 @@ sidedWork K Right conj uplo va vb vc byBeta byAlpha a b c =
 
 abbrev pub ReadySided : Side → Bool → UpLo → View → ℕ → View → ℕ → View → ℕ → Type 0
 ReadySided Left conj uplo va la vb lb vc lc = FoldedReady (leftPlan conj uplo va vb (vc .rows) vc) la lb lc × ByRow (leftPlan conj uplo va vb (vc .rows) vc)
-ReadySided Right conj uplo va la vb lb vc lc = FoldedReady (rightPlan conj uplo va vb (vc .cols) vc) lb la lc × ByCol (rightPlan conj uplo va vb (vc .cols) vc)
+ReadySided Right conj uplo va la vb lb vc lc = FoldedReady (rightPlan conj uplo va vb (vc .cols) vc) lb la lc

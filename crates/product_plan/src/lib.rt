@@ -8,7 +8,6 @@ pub use plan::Factors;
 pub use plan::Folded;
 pub use plan::Plan;
 pub use plan::Turn;
-pub use plan::next_place;
 pub use plan::turn_at;
 pub use routines::gemm_plan;
 pub use routines::gemv_plan;

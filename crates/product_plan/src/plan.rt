@@ -1,9 +1,8 @@
 // The plan of a product: the same for every number kind.
 
 ghost use mathlib.Core.Path.{_≡_};
-ghost use Prim.Native.Nat.{_+_, _%_, _^_, _≤_};
-ghost use Rattle.product_plan.specs.Plan.{termsBefore, bentStep};
-use std::num::wrapping_add_usize;
+ghost use Prim.Native.Nat.{_≤_};
+ghost use Rattle.product_plan.specs.Plan.{termsBefore};
 use view::View;
 
 // Where the factors of a term are read: (i, p) of the left view and (p, j) of the right one, and whether they are conjugated.
@@ -48,16 +47,5 @@ pub fn turn_at(t: Turn, i: usize, j: usize, n: usize) -> usize
         Turn::PastRow => i + 1,
         Turn::AtCol => j,
         Turn::PastCol => j + 1,
-    }
-}
-
-// The place after place k, that of term p: a line goes by one step to term i, and by another from there.
-pub fn next_place(k: usize, before: usize, after: usize, i: usize, p: usize) -> usize
-    ensures { λ r. ⌜ r ≡ (k + bentStep before after i p) % 2 ^ 64 ⌝ }
-{
-    if p < i {
-        wrapping_add_usize(k, before)
-    } else {
-        wrapping_add_usize(k, after)
     }
 }

@@ -4,12 +4,16 @@
 ghost use mathlib.Core.Path.{_≡_};
 ghost use mathlib.Core.Bool.{true, false};
 ghost use Prim.Native.Nat.{_<_, _≤_, _+_, _-_};
+ghost use lib.IntN.{pos};
 ghost use Rattle.number.specs.Kind.{real64};
 ghost use Rattle.number.specs.Scaling.{scaleBy64};
+ghost use Rattle.view.specs.Steps.{Accepted};
 ghost use Rattle.view.specs.Triangle.{inTriangle};
+ghost use Rattle.slab.specs.Eight.{Eight};
 ghost use Rattle.slab.specs.Run.{plusTerms};
 ghost use Rattle.slab.specs.Elem.{lent, Within};
-ghost use Rattle.slab.specs.Update.{everywhere, replaced, updateRow, update};
+ghost use Rattle.slab.specs.Update.{everywhere, replaced, span, spanRows, updateRow, update};
+ghost use Rattle.blas.specs.Matrix.{accumulate};
 ghost use Rattle.blas.specs.Outcome.{Gives};
 ghost use Rattle.blas.specs.Gemm;
 ghost use Rattle.blas.specs.Gemv;
@@ -19,7 +23,7 @@ ghost use Rattle.blas.specs.Herk;
 ghost use Rattle.blas.specs.Symm;
 ghost use Rattle.blas.specs.Syrk;
 ghost use Rattle.product_plan.specs.Plans.{ReadySided, sidedWork};
-ghost use Rattle.product_plan.specs.Plan.{term, planChange, foldedChange, foldedProduct, LeftWalk, RightWalk, FactorsWithin, PlanReady, FoldedReady, ByRow, ByCol};
+ghost use Rattle.product_plan.specs.Plan.{term, product, termsBefore, foldedTerm, turnedSum, planChange, foldedChange, foldedProduct, Block, Reads, FoldedReads, FactorsWithin, PlanReady, FoldedReady, Turns, ByRow};
 use judge::check_gemm;
 use judge::check_gemv;
 use judge::check_hemm;
@@ -65,6 +69,7 @@ use view::op_view;
 use view::passed;
 use view::place;
 use view::rows;
+use view::transposed;
 
 // The sum with the terms of element (i, j) from `from` to before `end` added.
 fn add_run(
@@ -128,7 +133,7 @@ fn add_beside(
     end: usize,
     sums: [f64; 8],
 ) -> [f64; 8]
-    requires { ⌜ EightWithin f (real64 .count (now a)) (real64 .count (now b)) i j from end × (f .right .cs ≡ pos 1) ⌝ }
+    requires { ⌜ FactorsWithin f (real64 .count (now a)) (real64 .count (now b)) i (j + 7) from end × (f .right .cs ≡ pos 1) ⌝ }
     ensures { λ r. ⌜ Eight real64 r (λ t. plusTerms real64 (real64 .at sums t) (term real64 f (now (a .entry)) (now (b .entry)) i (j + t)) from (end - from)) ⌝ }
 {
     let mut totals = sums;
@@ -151,7 +156,7 @@ fn add_apart(
     end: usize,
     sums: [f64; 8],
 ) -> [f64; 8]
-    requires { ⌜ EightWithin f (real64 .count (now a)) (real64 .count (now b)) i j from end ⌝ }
+    requires { ⌜ FactorsWithin f (real64 .count (now a)) (real64 .count (now b)) i (j + 7) from end ⌝ }
     ensures { λ r. ⌜ Eight real64 r (λ t. plusTerms real64 (real64 .at sums t) (term real64 f (now (a .entry)) (now (b .entry)) i (j + t)) from (end - from)) ⌝ }
 {
     let mut totals = sums;
@@ -174,7 +179,7 @@ fn add_eight(
     end: usize,
     sums: [f64; 8],
 ) -> [f64; 8]
-    requires { ⌜ EightWithin f (real64 .count (now a)) (real64 .count (now b)) i j from end ⌝ }
+    requires { ⌜ FactorsWithin f (real64 .count (now a)) (real64 .count (now b)) i (j + 7) from end ⌝ }
     ensures { λ r. ⌜ Eight real64 r (λ t. plusTerms real64 (real64 .at sums t) (term real64 f (now (a .entry)) (now (b .entry)) i (j + t)) from (end - from)) ⌝ }
 {
     if f.right.cs == 1 {
@@ -196,8 +201,8 @@ fn settle_block(
     end: usize,
     sums: [f64; 8],
 )
-    requires { ⌜ Accepted v (real64 .count (now c)) × (i < v .rows) × BlockOf from first end (v .cols) ⌝ }
-    ensures { λ _. ⌜ now (c .exit) ≡ span real64 v (blockChange real64 (scaleBy64 beta) (real64 .mul (alpha .0)) sums from) i first end (now (c .entry)) ⌝ }
+    requires { ⌜ Accepted v (real64 .count (now c)) × (i < v .rows) × Block from first end (v .cols) ⌝ }
+    ensures { λ _. ⌜ now (c .exit) ≡ span real64 v (accumulate real64 (scaleBy64 beta) (real64 .mul (alpha .0)) (λ i j. real64 .at sums (j - from))) i first end (now (c .entry)) ⌝ }
 {
     let mut j = first;
     while j < end {
@@ -219,7 +224,7 @@ fn block(
     first: usize,
     end: usize,
 )
-    requires { ⌜ PlanReady plan (real64 .count (now a)) (real64 .count (now b)) (real64 .count (now c)) × (i < plan .target .rows) × BlockOf from first end (plan .target .cols) ⌝ }
+    requires { ⌜ PlanReady plan (real64 .count (now a)) (real64 .count (now b)) (real64 .count (now c)) × (i < plan .target .rows) × Block from first end (plan .target .cols) ⌝ }
     ensures { λ _. ⌜ now (c .exit) ≡ span real64 (plan .target) (planChange real64 plan (scaleBy64 beta) (real64 .mul (alpha .0)) (now (a .entry)) (now (b .entry))) i first end (now (c .entry)) ⌝ }
 {
     let sums = add_eight(plan.factors, a, b, i, from, 0, plan.terms, [0.0; 8]);
@@ -299,8 +304,60 @@ fn run(plan: Plan, a: &[f64], b: &[f64], alpha: Real64, beta: Beta64, c: &mut [f
     }
 }
 
-// The whole target, which is a column.
-fn run_column(plan: Plan, a: &[f64], b: &[f64], alpha: Real64, beta: Beta64, c: &mut [f64])
+// The sums of the eight elements of a column from row i on: op(A)'s rows lie apart as its transpose's columns do.
+fn column_sums(plan: Plan, a: &[f64], b: &[f64], i: usize) -> [f64; 8]
+    requires { ⌜ Reads (plan .factors) (real64 .count (now a)) (real64 .count (now b)) (plan .target .rows) (plan .target .cols) (plan .terms) × (i + 8 ≤ plan .target .rows) × (plan .target .cols ≡ 1) ⌝ }
+    ensures { λ r. ⌜ Eight real64 r (λ t. product real64 plan (now (a .entry)) (now (b .entry)) (i + t) 0) ⌝ }
+{
+    let v = transposed(plan.factors.left);
+    let n = plan.terms;
+    let mut sums = [0.0; 8];
+    let mut p = 0;
+    while p < n {
+        sums = add_eight64(elem64(b, plan.factors.right, p, 0), a, v, p, i, sums);
+        p += 1;
+    }
+    sums
+}
+
+// Elements `first` to before from + 8 of a column, with the sums of those from `from` on.
+fn settle_column(
+    v: View,
+    alpha: Real64,
+    beta: Beta64,
+    c: &mut [f64],
+    from: usize,
+    first: usize,
+    sums: [f64; 8],
+)
+    requires { ⌜ Accepted v (real64 .count (now c)) × (v .cols ≡ 1) × Block from first (from + 8) (v .rows) ⌝ }
+    ensures { λ _. ⌜ now (c .exit) ≡ spanRows real64 v (accumulate real64 (scaleBy64 beta) (real64 .mul (alpha .0)) (λ i j. real64 .at sums (i - from))) first (from + 8) (now (c .entry)) ⌝ }
+{
+    let end = from + 8;
+    let mut i = first;
+    while i < end {
+        settle(v, alpha, beta, c, i, 0, Real64(sums[i - from]));
+        i += 1;
+    }
+}
+
+// The whole target, which is a column, eight rows at a time.
+fn column_wide(plan: Plan, a: &[f64], b: &[f64], alpha: Real64, beta: Beta64, c: &mut [f64])
+    requires { ⌜ PlanReady plan (real64 .count (now a)) (real64 .count (now b)) (real64 .count (now c)) × (plan .target .cols ≡ 1) × (8 ≤ plan .target .rows) ⌝ }
+    ensures { λ _. ⌜ now (c .exit) ≡ update real64 (plan .target) everywhere (planChange real64 plan (scaleBy64 beta) (real64 .mul (alpha .0)) (now (a .entry)) (now (b .entry))) (now (c .entry)) ⌝ }
+{
+    let m = rows(plan.target);
+    let mut i = 0;
+    while i < m {
+        let from = block_start(i, m);
+        let sums = column_sums(plan, a, b, from);
+        settle_column(plan.target, alpha, beta, c, from, i, sums);
+        i = from + 8;
+    }
+}
+
+// The whole target, which is a column, element by element.
+fn column_plain(plan: Plan, a: &[f64], b: &[f64], alpha: Real64, beta: Beta64, c: &mut [f64])
     requires { ⌜ PlanReady plan (real64 .count (now a)) (real64 .count (now b)) (real64 .count (now c)) × (plan .target .cols ≡ 1) ⌝ }
     ensures { λ _. ⌜ now (c .exit) ≡ update real64 (plan .target) everywhere (planChange real64 plan (scaleBy64 beta) (real64 .mul (alpha .0)) (now (a .entry)) (now (b .entry))) (now (c .entry)) ⌝ }
 {
@@ -309,6 +366,18 @@ fn run_column(plan: Plan, a: &[f64], b: &[f64], alpha: Real64, beta: Beta64, c: 
     while i < m {
         entry(plan, a, b, alpha, beta, c, i, 0);
         i += 1;
+    }
+}
+
+// The whole target, which is a column.
+fn run_column(plan: Plan, a: &[f64], b: &[f64], alpha: Real64, beta: Beta64, c: &mut [f64])
+    requires { ⌜ PlanReady plan (real64 .count (now a)) (real64 .count (now b)) (real64 .count (now c)) × (plan .target .cols ≡ 1) ⌝ }
+    ensures { λ _. ⌜ now (c .exit) ≡ update real64 (plan .target) everywhere (planChange real64 plan (scaleBy64 beta) (real64 .mul (alpha .0)) (now (a .entry)) (now (b .entry))) (now (c .entry)) ⌝ }
+{
+    if 8 <= rows(plan.target) {
+        column_wide(plan, a, b, alpha, beta, c);
+    } else {
+        column_plain(plan, a, b, alpha, beta, c);
     }
 }
 
@@ -354,7 +423,7 @@ fn folded_entry(
 
 // The whole target, which is a column.
 fn run_left_column(plan: Folded, a: &[f64], b: &[f64], alpha: Real64, beta: Beta64, c: &mut [f64])
-    requires { ⌜ FoldedReady plan (real64 .count (now a)) (real64 .count (now b)) (real64 .count (now c)) × ByRow plan × (plan .target .cols ≡ 1) ⌝ }
+    requires { ⌜ FoldedReady plan (real64 .count (now a)) (real64 .count (now b)) (real64 .count (now c)) × (plan .target .cols ≡ 1) ⌝ }
     ensures { λ _. ⌜ now (c .exit) ≡ update real64 (plan .target) everywhere (foldedChange real64 plan (scaleBy64 beta) (real64 .mul (alpha .0)) (now (a .entry)) (now (b .entry))) (now (c .entry)) ⌝ }
 {
     let m = rows(plan.target);
@@ -456,6 +525,40 @@ pub fn gemm(
     answer
 }
 
+// Row i of a folded plan's target, element by element.
+fn folded_row(
+    plan: Folded,
+    a: &[f64],
+    b: &[f64],
+    alpha: Real64,
+    beta: Beta64,
+    c: &mut [f64],
+    i: usize,
+)
+    requires { ⌜ FoldedReady plan (real64 .count (now a)) (real64 .count (now b)) (real64 .count (now c)) × (i < plan .target .rows) ⌝ }
+    ensures { λ _. ⌜ now (c .exit) ≡ updateRow real64 (plan .target) everywhere (foldedChange real64 plan (scaleBy64 beta) (real64 .mul (alpha .0)) (now (a .entry)) (now (b .entry))) i (plan .target .cols) (now (c .entry)) ⌝ }
+{
+    let n = cols(plan.target);
+    let mut j = 0;
+    while j < n {
+        folded_entry(plan, a, b, alpha, beta, c, i, j);
+        j += 1;
+    }
+}
+
+// The whole target, element by element.
+fn run_folded(plan: Folded, a: &[f64], b: &[f64], alpha: Real64, beta: Beta64, c: &mut [f64])
+    requires { ⌜ FoldedReady plan (real64 .count (now a)) (real64 .count (now b)) (real64 .count (now c)) ⌝ }
+    ensures { λ _. ⌜ now (c .exit) ≡ update real64 (plan .target) everywhere (foldedChange real64 plan (scaleBy64 beta) (real64 .mul (alpha .0)) (now (a .entry)) (now (b .entry))) (now (c .entry)) ⌝ }
+{
+    let m = rows(plan.target);
+    let mut i = 0;
+    while i < m {
+        folded_row(plan, a, b, alpha, beta, c, i);
+        i += 1;
+    }
+}
+
 // The sum of element (i, j) with the terms from `from` to before `end` added, of which those from k on are after the turn.
 fn add_turned(
     plan: Folded,
@@ -468,6 +571,8 @@ fn add_turned(
     end: usize,
     sum: Real64,
 ) -> Real64
+    requires { ⌜ FactorsWithin (plan .head) (real64 .count (now a)) (real64 .count (now b)) i j from k × FactorsWithin (plan .tail) (real64 .count (now a)) (real64 .count (now b)) i j k end ⌝ }
+    ensures { λ r. ⌜ r .0 ≡ plusTerms real64 (plusTerms real64 (sum .0) (term real64 (plan .head) (now (a .entry)) (now (b .entry)) i j) from (k - from)) (term real64 (plan .tail) (now (a .entry)) (now (b .entry)) i j) k (end - k) ⌝ }
 {
     let head = add_run(plan.head, a, b, i, j, from, k, sum);
     add_run(plan.tail, a, b, i, j, k, end, head)
@@ -484,6 +589,8 @@ fn add_turns(
     end: usize,
     sums: [f64; 8],
 ) -> [f64; 8]
+    requires { ⌜ Turns plan (real64 .count (now a)) (real64 .count (now b)) i j from end ⌝ }
+    ensures { λ r. ⌜ Eight real64 r (λ t. turnedSum real64 plan (now (a .entry)) (now (b .entry)) i (j + t) from end (real64 .at sums t)) ⌝ }
 {
     let turn = plan.turn;
     let n = plan.terms;
@@ -508,6 +615,8 @@ fn bend(
     end: usize,
     sums: [f64; 8],
 ) -> [f64; 8]
+    requires { ⌜ Turns plan (real64 .count (now a)) (real64 .count (now b)) i j from end ⌝ }
+    ensures { λ r. ⌜ Eight real64 r (λ t. turnedSum real64 plan (now (a .entry)) (now (b .entry)) i (j + t) from end (real64 .at sums t)) ⌝ }
 {
     if from < end {
         add_turns(plan, a, b, i, j, from, end, sums)
@@ -518,6 +627,8 @@ fn bend(
 
 // The sums of elements (i, j) to (i, j + 7) of a folded plan.
 fn folded_eight(plan: Folded, a: &[f64], b: &[f64], i: usize, j: usize) -> [f64; 8]
+    requires { ⌜ FoldedReads plan (real64 .count (now a)) (real64 .count (now b)) × (i < plan .target .rows) × (j + 8 ≤ plan .target .cols) ⌝ }
+    ensures { λ r. ⌜ Eight real64 r (λ t. foldedProduct real64 plan (now (a .entry)) (now (b .entry)) i (j + t)) ⌝ }
 {
     let turn = plan.turn;
     let n = plan.terms;
@@ -541,6 +652,8 @@ fn folded_block(
     first: usize,
     end: usize,
 )
+    requires { ⌜ FoldedReady plan (real64 .count (now a)) (real64 .count (now b)) (real64 .count (now c)) × (i < plan .target .rows) × Block from first end (plan .target .cols) ⌝ }
+    ensures { λ _. ⌜ now (c .exit) ≡ span real64 (plan .target) (foldedChange real64 plan (scaleBy64 beta) (real64 .mul (alpha .0)) (now (a .entry)) (now (b .entry))) i first end (now (c .entry)) ⌝ }
 {
     let sums = folded_eight(plan, a, b, i, from);
     settle_block(plan.target, alpha, beta, c, i, from, first, end, sums);
@@ -556,6 +669,8 @@ fn folded_wide_row(
     c: &mut [f64],
     i: usize,
 )
+    requires { ⌜ FoldedReady plan (real64 .count (now a)) (real64 .count (now b)) (real64 .count (now c)) × (i < plan .target .rows) × (8 ≤ plan .target .cols) ⌝ }
+    ensures { λ _. ⌜ now (c .exit) ≡ updateRow real64 (plan .target) everywhere (foldedChange real64 plan (scaleBy64 beta) (real64 .mul (alpha .0)) (now (a .entry)) (now (b .entry))) i (plan .target .cols) (now (c .entry)) ⌝ }
 {
     let n = cols(plan.target);
     let mut j = 0;
@@ -568,6 +683,8 @@ fn folded_wide_row(
 
 // The whole target, eight columns at a time.
 fn run_folded_wide(plan: Folded, a: &[f64], b: &[f64], alpha: Real64, beta: Beta64, c: &mut [f64])
+    requires { ⌜ FoldedReady plan (real64 .count (now a)) (real64 .count (now b)) (real64 .count (now c)) × (8 ≤ plan .target .cols) ⌝ }
+    ensures { λ _. ⌜ now (c .exit) ≡ update real64 (plan .target) everywhere (foldedChange real64 plan (scaleBy64 beta) (real64 .mul (alpha .0)) (now (a .entry)) (now (b .entry))) (now (c .entry)) ⌝ }
 {
     let m = rows(plan.target);
     let mut i = 0;
@@ -575,6 +692,51 @@ fn run_folded_wide(plan: Folded, a: &[f64], b: &[f64], alpha: Real64, beta: Beta
         folded_wide_row(plan, a, b, alpha, beta, c, i);
         i += 1;
     }
+}
+
+// Term p of element (i, j), of which the terms from k on are after the turn.
+fn folded_term(
+    plan: Folded,
+    k: usize,
+    a: &[f64],
+    b: &[f64],
+    i: usize,
+    j: usize,
+    p: usize,
+) -> Real64
+    requires { ⌜ FoldedReads plan (real64 .count (now a)) (real64 .count (now b)) × (i < plan .target .rows) × (j < plan .target .cols) × (p < plan .terms) × (k ≡ termsBefore (plan .turn) i j) ⌝ }
+    ensures { λ r. ⌜ r .0 ≡ foldedTerm real64 plan (now (a .entry)) (now (b .entry)) i j p ⌝ }
+{
+    if p < k {
+        elem64(a, plan.head.left, i, p).mul(elem64(b, plan.head.right, p, j))
+    } else {
+        elem64(a, plan.tail.left, i, p).mul(elem64(b, plan.tail.right, p, j))
+    }
+}
+
+// Element (i, j) of a folded plan's target, term by term, where the sum turns after k terms.
+fn small_entry(
+    plan: Folded,
+    k: usize,
+    a: &[f64],
+    b: &[f64],
+    alpha: Real64,
+    beta: Beta64,
+    c: &mut [f64],
+    i: usize,
+    j: usize,
+)
+    requires { ⌜ FoldedReady plan (real64 .count (now a)) (real64 .count (now b)) (real64 .count (now c)) × (i < plan .target .rows) × (j < plan .target .cols) × (k ≡ termsBefore (plan .turn) i j) ⌝ }
+    ensures { λ _. ⌜ now (c .exit) ≡ replaced real64 (plan .target) i j (foldedChange real64 plan (scaleBy64 beta) (real64 .mul (alpha .0)) (now (a .entry)) (now (b .entry)) i j) (now (c .entry)) ⌝ }
+{
+    let n = plan.terms;
+    let mut sum = Real64::ZERO;
+    let mut p = 0;
+    while p < n {
+        sum = sum.add(folded_term(plan, k, a, b, i, j, p));
+        p += 1;
+    }
+    settle(plan.target, alpha, beta, c, i, j, sum);
 }
 
 // Row i of symm with A on the left.
@@ -595,13 +757,13 @@ fn symm_left_row(
     let n = cols(plan.target);
     let mut j = 0;
     while j < n {
-        turned_entry(plan, k, a, b, alpha, beta, c, i, j);
+        small_entry(plan, k, a, b, alpha, beta, c, i, j);
         j += 1;
     }
 }
 
-// The whole target of symm with A on the left, element by element.
-fn symm_left_plain(plan: Folded, a: &[f64], b: &[f64], alpha: Real64, beta: Beta64, c: &mut [f64])
+// The whole target of symm with A on the left, term by term.
+fn symm_left_small(plan: Folded, a: &[f64], b: &[f64], alpha: Real64, beta: Beta64, c: &mut [f64])
     requires { ⌜ FoldedReady plan (real64 .count (now a)) (real64 .count (now b)) (real64 .count (now c)) × ByRow plan ⌝ }
     ensures { λ _. ⌜ now (c .exit) ≡ update real64 (plan .target) everywhere (foldedChange real64 plan (scaleBy64 beta) (real64 .mul (alpha .0)) (now (a .entry)) (now (b .entry))) (now (c .entry)) ⌝ }
 {
@@ -637,8 +799,17 @@ fn symm_left(
             beta,
             c,
         );
+    } else if 8 <= rows(vc) {
+        run_folded(
+            left_plan(false, uplo, va, vb, rows(vc), vc),
+            a,
+            b,
+            alpha,
+            beta,
+            c,
+        );
     } else {
-        symm_left_plain(
+        symm_left_small(
             left_plan(false, uplo, va, vb, rows(vc), vc),
             a,
             b,
@@ -659,20 +830,23 @@ fn symm_right_row(
     c: &mut [f64],
     i: usize,
 )
-    requires { ⌜ FoldedReady plan (real64 .count (now a)) (real64 .count (now b)) (real64 .count (now c)) × ByCol plan × (i < plan .target .rows) ⌝ }
+    requires { ⌜ FoldedReady plan (real64 .count (now a)) (real64 .count (now b)) (real64 .count (now c)) × (i < plan .target .rows) ⌝ }
     ensures { λ _. ⌜ now (c .exit) ≡ updateRow real64 (plan .target) everywhere (foldedChange real64 plan (scaleBy64 beta) (real64 .mul (alpha .0)) (now (a .entry)) (now (b .entry))) i (plan .target .cols) (now (c .entry)) ⌝ }
 {
+    let turn = plan.turn;
+    let m = plan.terms;
     let n = cols(plan.target);
     let mut j = 0;
     while j < n {
-        folded_entry(plan, a, b, alpha, beta, c, i, j);
+        let k = turn_at(turn, i, j, m);
+        small_entry(plan, k, a, b, alpha, beta, c, i, j);
         j += 1;
     }
 }
 
-// The whole target of symm with A on the right, element by element.
-fn symm_right_plain(plan: Folded, a: &[f64], b: &[f64], alpha: Real64, beta: Beta64, c: &mut [f64])
-    requires { ⌜ FoldedReady plan (real64 .count (now a)) (real64 .count (now b)) (real64 .count (now c)) × ByCol plan ⌝ }
+// The whole target of symm with A on the right, term by term.
+fn symm_right_small(plan: Folded, a: &[f64], b: &[f64], alpha: Real64, beta: Beta64, c: &mut [f64])
+    requires { ⌜ FoldedReady plan (real64 .count (now a)) (real64 .count (now b)) (real64 .count (now c)) ⌝ }
     ensures { λ _. ⌜ now (c .exit) ≡ update real64 (plan .target) everywhere (foldedChange real64 plan (scaleBy64 beta) (real64 .mul (alpha .0)) (now (a .entry)) (now (b .entry))) (now (c .entry)) ⌝ }
 {
     let m = rows(plan.target);
@@ -708,7 +882,7 @@ fn symm_right(
             c,
         );
     } else {
-        symm_right_plain(
+        symm_right_small(
             right_plan(false, uplo, va, vb, cols(vc), vc),
             b,
             a,
@@ -782,13 +956,13 @@ fn hemm_left_row(
     let n = cols(plan.target);
     let mut j = 0;
     while j < n {
-        turned_entry(plan, k, a, b, alpha, beta, c, i, j);
+        small_entry(plan, k, a, b, alpha, beta, c, i, j);
         j += 1;
     }
 }
 
-// The whole target of hemm with A on the left, element by element.
-fn hemm_left_plain(plan: Folded, a: &[f64], b: &[f64], alpha: Real64, beta: Beta64, c: &mut [f64])
+// The whole target of hemm with A on the left, term by term.
+fn hemm_left_small(plan: Folded, a: &[f64], b: &[f64], alpha: Real64, beta: Beta64, c: &mut [f64])
     requires { ⌜ FoldedReady plan (real64 .count (now a)) (real64 .count (now b)) (real64 .count (now c)) × ByRow plan ⌝ }
     ensures { λ _. ⌜ now (c .exit) ≡ update real64 (plan .target) everywhere (foldedChange real64 plan (scaleBy64 beta) (real64 .mul (alpha .0)) (now (a .entry)) (now (b .entry))) (now (c .entry)) ⌝ }
 {
@@ -824,8 +998,17 @@ fn hemm_left(
             beta,
             c,
         );
+    } else if 8 <= rows(vc) {
+        run_folded(
+            left_plan(true, uplo, va, vb, rows(vc), vc),
+            a,
+            b,
+            alpha,
+            beta,
+            c,
+        );
     } else {
-        hemm_left_plain(
+        hemm_left_small(
             left_plan(true, uplo, va, vb, rows(vc), vc),
             a,
             b,
@@ -846,20 +1029,23 @@ fn hemm_right_row(
     c: &mut [f64],
     i: usize,
 )
-    requires { ⌜ FoldedReady plan (real64 .count (now a)) (real64 .count (now b)) (real64 .count (now c)) × ByCol plan × (i < plan .target .rows) ⌝ }
+    requires { ⌜ FoldedReady plan (real64 .count (now a)) (real64 .count (now b)) (real64 .count (now c)) × (i < plan .target .rows) ⌝ }
     ensures { λ _. ⌜ now (c .exit) ≡ updateRow real64 (plan .target) everywhere (foldedChange real64 plan (scaleBy64 beta) (real64 .mul (alpha .0)) (now (a .entry)) (now (b .entry))) i (plan .target .cols) (now (c .entry)) ⌝ }
 {
+    let turn = plan.turn;
+    let m = plan.terms;
     let n = cols(plan.target);
     let mut j = 0;
     while j < n {
-        folded_entry(plan, a, b, alpha, beta, c, i, j);
+        let k = turn_at(turn, i, j, m);
+        small_entry(plan, k, a, b, alpha, beta, c, i, j);
         j += 1;
     }
 }
 
-// The whole target of hemm with A on the right, element by element.
-fn hemm_right_plain(plan: Folded, a: &[f64], b: &[f64], alpha: Real64, beta: Beta64, c: &mut [f64])
-    requires { ⌜ FoldedReady plan (real64 .count (now a)) (real64 .count (now b)) (real64 .count (now c)) × ByCol plan ⌝ }
+// The whole target of hemm with A on the right, term by term.
+fn hemm_right_small(plan: Folded, a: &[f64], b: &[f64], alpha: Real64, beta: Beta64, c: &mut [f64])
+    requires { ⌜ FoldedReady plan (real64 .count (now a)) (real64 .count (now b)) (real64 .count (now c)) ⌝ }
     ensures { λ _. ⌜ now (c .exit) ≡ update real64 (plan .target) everywhere (foldedChange real64 plan (scaleBy64 beta) (real64 .mul (alpha .0)) (now (a .entry)) (now (b .entry))) (now (c .entry)) ⌝ }
 {
     let m = rows(plan.target);
@@ -895,7 +1081,7 @@ fn hemm_right(
             c,
         );
     } else {
-        hemm_right_plain(
+        hemm_right_small(
             right_plan(true, uplo, va, vb, cols(vc), vc),
             b,
             a,

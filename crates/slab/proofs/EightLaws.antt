@@ -40,3 +40,7 @@ module _ (K : Kind) (L : SlabLaws K) (f : ℕ → K .Elem) (given : List (K .Cel
 
   pub part-end : (s : List (K .Cell)) (t : ℕ) → 8 ≤ t → Part K f given s t → Eight K s f
   part-end s t l h = record { count = h .count; sum = λ q m. h .done q (omega arith) }
+
+-- what the eight are may be said in another way
+pub eight-same : (K : Kind) (s : List (K .Cell)) (f g : ℕ → K .Elem) → Eight K s f → ((t : ℕ) → t < 8 → f t ≡ g t) → Eight K s g
+eight-same K s f g h e = record { count = h .count; sum = λ t l. h .sum t l ∙ e t l }

@@ -1,0 +1,133 @@
+-- Eight sums of a row, or of a column, side by side: each is the sum that it would be by itself, and a part of the eight elements is settled with them.
+use Prim.Native.Nat.{ℕ, zero, suc, _+_, _-_, _≤_, _<_}
+use mathlib.Core.List.{List}
+use mathlib.Core.Path.{_≡_, refl, sym, ap, subst, _∙_}
+use native.Mathlib.Omega.{arith}
+use lib.Ieee.{Float, Format}
+use lib.IntN.{pos}
+use Rattle.number.specs.Kind.{Kind, real}
+use Rattle.number.proofs.Commutes.{Commutes}
+use Rattle.view.specs.declared.View.{View}
+use Rattle.view.specs.Place.{index, transposedOf}
+use Rattle.slab.specs.Elem.{elem, Within}
+use Rattle.slab.specs.Eight.{Eight}
+use Rattle.slab.specs.Run.{plusTerms}
+use Rattle.slab.specs.Update.{everywhere, span, spanRows, updateRows}
+use Rattle.slab.proofs.EightLaws.{eight-same}
+use Rattle.slab.proofs.LoopLaws.{span-same, rows-span-after}
+use Rattle.slab.proofs.Shown.{beside}
+use Rattle.blas.specs.Matrix.{Matrix, sum, accumulate}
+use Rattle.blas.proofs.OpLaws.{transposed-elem}
+use Rattle.product_plan.specs.declared.plan.Factors.{Factors}
+use Rattle.product_plan.specs.declared.plan.Folded.{Folded}
+use Rattle.product_plan.specs.Plan.{term, termsBefore, turnedSum, foldedProduct, Block, Turns}
+use Rattle.product_plan.proofs.Sums.{plus-start, plus-end, plus-join, real-next, real-sum-next, folded-sum}
+
+-- ---- terms added to each of eight sums, x t being what sum t began with
+
+module _ (K : Kind) (x : ℕ → K .Elem) (g : ℕ → ℕ → K .Elem) where
+  pub eight-start : (s : List (K .Cell)) (from : ℕ) → Eight K s x → Eight K s (λ t. plusTerms K (x t) (g t) from (from - from))
+  eight-start s from h = eight-same K s _ _ h (λ t l. plus-start K (g t) (x t) from)
+
+  pub eight-end : (s : List (K .Cell)) (from p end : ℕ) → p ≤ end → end ≤ p → Eight K s (λ t. plusTerms K (x t) (g t) from (p - from))
+      → Eight K s (λ t. plusTerms K (x t) (g t) from (end - from))
+  eight-end s from p end h l e = eight-same K s _ _ e (λ t q. plus-end K (g t) (x t) _ from p end h l refl)
+
+-- term p added: u is the left factor
+module _ (r : Format) (f : Factors) (a b : List Float) (i j : ℕ) (x : ℕ → Float) (from p : ℕ) (sums next : List Float) (u : Float) where
+  pub eight-next : from ≤ p → Eight (real r) sums (λ t. plusTerms (real r) (x t) (term (real r) f a b i (j + t)) from (p - from)) → u ≡ elem (real r) a (f .left) i p
+      → Eight (real r) next (λ t. real r .add (real r .at sums t) (real r .mul u (elem (real r) b (f .right) p (j + t))))
+      → Eight (real r) next (λ t. plusTerms (real r) (x t) (term (real r) f a b i (j + t)) from (p + 1 - from))
+  eight-next h e eu n =
+      eight-same (real r) next _ _ n (λ t l. real-next r f a b i (j + t) (x t) from p (real r .at sums t) u (elem (real r) b (f .right) p (j + t)) _ _ h (e .sum t l) eu refl refl refl)
+
+  -- the same where the right factors lie side by side from place k on
+  pub beside-next : (lb k : ℕ) → f .right .cs ≡ pos 1 → Within (f .right) lb p (j + 7) → k ≡ index (f .right) p j
+      → from ≤ p → Eight (real r) sums (λ t. plusTerms (real r) (x t) (term (real r) f a b i (j + t)) from (p - from)) → u ≡ elem (real r) a (f .left) i p
+      → Eight (real r) next (λ t. real r .add (real r .at sums t) (real r .mul u (real r .at b (k + t))))
+      → Eight (real r) next (λ t. plusTerms (real r) (x t) (term (real r) f a b i (j + t)) from (p + 1 - from))
+  beside-next lb k one w ek h e eu n =
+      eight-next h e eu
+      (eight-same (real r) next _ _ n (λ t l. ap (λ (q : ℕ). real r .add (real r .at sums t) (real r .mul u (real r .at b q)))
+      (ap (λ (q : ℕ). q + t) ek ∙ sym (beside (f .right) lb p j t one (record { fits = w .fits; row = w .row; col = omega (arith, w .col) })))))
+
+-- ---- the eight of a column from row i on: op(A)'s rows are its transpose's columns, and the factors are multiplied in the other order
+
+pub column-sums-next : (r : Format) → Commutes (real r) → (f : Factors) (a b : List Float) (i p : ℕ) (sums next : List Float) (u : Float)
+    → Eight (real r) sums (λ t. sum (real r) p (term (real r) f a b (i + t) 0)) → u ≡ elem (real r) b (f .right) p 0
+    → Eight (real r) next (λ t. real r .add (real r .at sums t) (real r .mul u (elem (real r) a (transposedOf (f .left)) p (i + t))))
+    → Eight (real r) next (λ t. sum (real r) (p + 1) (term (real r) f a b (i + t) 0))
+column-sums-next r C f a b i p sums next u e eu n =
+    eight-same (real r) next _ _ n (λ t l. real-sum-next r f a b (i + t) 0 p (real r .at sums t) (elem (real r) a (f .left) (i + t) p) u _ _ (e .sum t l) refl eu
+    (C .commutes u (elem (real r) a (transposedOf (f .left)) p (i + t)) ∙ ap (λ (z : Float). real r .mul z u) (transposed-elem (real r) a (f .left) p (i + t)))
+    refl)
+
+-- ---- the eight of a folded plan: before they turn, while they do, after
+
+pub folded-eights : (K : Kind) (plan : Folded) (a b : List (K .Cell)) (la lb i j k l : ℕ) (zeros head bent sums : List (K .Cell)) → Turns plan la lb i j k l → Eight K zeros (λ t. K .zero)
+    → Eight K head (λ t. plusTerms K (K .at zeros t) (term K (plan .head) a b i (j + t)) 0 (k - 0))
+    → Eight K bent (λ t. turnedSum K plan a b i (j + t) k l (K .at head t))
+    → Eight K sums (λ t. plusTerms K (K .at bent t) (term K (plan .tail) a b i (j + t)) l (plan .terms - l))
+    → Eight K sums (λ t. foldedProduct K plan a b i (j + t))
+folded-eights K plan a b la lb i j k l zeros head bent sums h z eh eb es =
+    record { count = es .count; sum = λ t q. folded-sum K plan a b i (j + t) (turn t) (K .at zeros t) (before t) (K .at sums t) refl (omega (arith, h .high t q, h .room)) (z .sum t q) (from-start t q) (to-end t q) }
+  where
+    turn : ℕ → ℕ
+    turn t = termsBefore (plan .turn) i (j + t)
+
+    before : ℕ → K .Elem
+    before t = plusTerms K (K .at head t) (term K (plan .head) a b i (j + t)) k (turn t - k)
+
+    from-start : (t : ℕ) → t < 8 → before t ≡ plusTerms K (K .at zeros t) (term K (plan .head) a b i (j + t)) 0 (turn t - 0)
+    from-start t q =
+        ap (λ y. plusTerms K y (term K (plan .head) a b i (j + t)) k (turn t - k)) (eh .sum t q)
+        ∙ plus-join K (term K (plan .head) a b i (j + t)) (K .at zeros t) 0 k (turn t) (omega arith) (h .low t q)
+
+    to-end : (t : ℕ) → t < 8 → K .at sums t ≡ plusTerms K (before t) (term K (plan .tail) a b i (j + t)) (turn t) (plan .terms - turn t)
+    to-end t q =
+        es .sum t q
+        ∙ ap (λ y. plusTerms K y (term K (plan .tail) a b i (j + t)) l (plan .terms - l)) (eb .sum t q)
+        ∙ plus-join K (term K (plan .tail) a b i (j + t)) (before t) (turn t) l (plan .terms) (h .high t q) (h .room)
+
+-- where the eight turn at once, nothing is added between
+pub turn-at-once : (K : Kind) (plan : Folded) (a b : List (K .Cell)) (la lb i j from end : ℕ) (sums : List (K .Cell)) → Turns plan la lb i j from end → end ≤ from → K .count sums ≡ 8
+    → Eight K sums (λ t. turnedSum K plan a b i (j + t) from end (K .at sums t))
+turn-at-once K plan a b la lb i j from end sums h g n =
+    record { count = n; sum = λ t q. none t q (h .low t q) (h .high t q) }
+  where
+    none : (t : ℕ) → t < 8 → from ≤ termsBefore (plan .turn) i (j + t) → termsBefore (plan .turn) i (j + t) ≤ end → K .at sums t ≡ turnedSum K plan a b i (j + t) from end (K .at sums t)
+    none t q low high =
+        let turn = termsBefore (plan .turn) i (j + t) in
+        let e : from ≡ turn = omega arith in
+        let d : turn ≡ end = omega arith in
+        plus-end K (term K (plan .head) a b i (j + t)) (K .at sums t) (K .at sums t) from from turn (omega arith) (omega arith) (plus-start K _ (K .at sums t) from)
+        ∙ plus-end K (term K (plan .tail) a b i (j + t)) _ _ turn turn end (omega arith) (omega arith) (plus-start K _ _ turn)
+
+-- ---- settled with such sums
+
+module _ (K : Kind) (v : View) (f h : K .Elem → K .Elem) (P : Matrix K) (sums : List (K .Cell)) where
+  -- part of the eight elements of row i from column `from` on
+  pub block-settled : (i from first end n : ℕ) (c after : List (K .Cell)) → Block from first end n → Eight K sums (λ t. P i (from + t))
+      → after ≡ span K v (accumulate K f h (λ i j. K .at sums (j - from))) i first end c → after ≡ span K v (accumulate K f h P) i first end c
+  block-settled i from first end n c after b e q =
+      q ∙ span-same K v (accumulate K f h (λ i j. K .at sums (j - from))) i (accumulate K f h P) first end c (b .ordered) (λ j l g x. ap (λ y. K .add (f x) (h y)) (lane j l g))
+    where
+      lane : (j : ℕ) → first ≤ j → j < end → K .at sums (j - from) ≡ P i j
+      lane j l g =
+          let d : from + (j - from) ≡ j = omega (arith, b .begins) in
+          e .sum (j - from) (omega (arith, b .begins, b .ends)) ∙ ap (P i) d
+
+  -- and of a column's eight from row `from` on, after the rows before
+  pub column-settled : (from first end n : ℕ) (c₀ c after : List (K .Cell)) → v .cols ≡ 1 → Block from first end n → Eight K sums (λ t. P (from + t) 0)
+      → c ≡ updateRows K v everywhere (accumulate K f h P) first c₀ → after ≡ spanRows K v (accumulate K f h (λ i j. K .at sums (i - from))) first end c
+      → after ≡ updateRows K v everywhere (accumulate K f h P) end c₀
+  column-settled from first end n c₀ c after one b e p q =
+      rows-span-after K v (accumulate K f h (λ i j. K .at sums (i - from))) one (accumulate K f h P) first end c₀ c after (b .ordered)
+      (λ i l g x. ap (λ y. K .add (f x) (h y)) (lane i l g))
+      p
+      q
+    where
+      lane : (i : ℕ) → first ≤ i → i < end → K .at sums (i - from) ≡ P i 0
+      lane i l g =
+          let d : from + (i - from) ≡ i = omega (arith, b .begins) in
+          e .sum (i - from) (omega (arith, b .begins, b .ends)) ∙ ap (λ (k : ℕ). P k 0) d
