@@ -18,10 +18,11 @@ use Rattle.slab.proofs.LoopLaws.{span-same, rows-span-after}
 use Rattle.slab.proofs.Shown.{beside}
 use Rattle.blas.specs.Matrix.{Matrix, sum, accumulate}
 use Rattle.blas.proofs.OpLaws.{transposed-elem}
+use Rattle.blas.proofs.SumLaws.{sum-start, sum-end}
 use Rattle.product_plan.specs.declared.plan.Factors.{Factors}
 use Rattle.product_plan.specs.declared.plan.Folded.{Folded}
 use Rattle.product_plan.specs.Plan.{term, termsBefore, turnedSum, foldedProduct, Block, Turns}
-use Rattle.product_plan.proofs.Sums.{plus-start, plus-end, plus-join, real-next, real-sum-next, folded-sum}
+use Rattle.product_plan.proofs.Sums.{plus-start, plus-end, plus-join, sum-whole, real-next, real-sum-next, folded-sum}
 
 -- ---- terms added to each of eight sums, x t being what sum t began with
 
@@ -50,6 +51,20 @@ module _ (r : Format) (f : Factors) (a b : List Float) (i j : ℕ) (x : ℕ → 
       eight-next h e eu
       (eight-same (real r) next _ _ n (λ t l. ap (λ (q : ℕ). real r .add (real r .at sums t) (real r .mul u (real r .at b q)))
       (ap (λ (q : ℕ). q + t) ek ∙ sym (beside (f .right) lb p j t one (record { fits = w .fits; row = w .row; col = omega (arith, w .col) })))))
+
+-- ---- whole sums
+
+module _ (K : Kind) (g : ℕ → ℕ → K .Elem) (zeros : List (K .Cell)) (z : K .Elem) (none : Eight K zeros (λ t. z)) (e : z ≡ K .zero) where
+  pub sums-start : Eight K zeros (λ t. sum K 0 (g t))
+  sums-start = eight-same K zeros _ _ none (λ t l. sum-start K (g t) z e)
+
+  -- a run from 0 on is the sum
+  pub sums-whole : (s : List (K .Cell)) (n : ℕ) → Eight K s (λ t. plusTerms K (K .at zeros t) (g t) 0 (n - 0)) → Eight K s (λ t. sum K n (g t))
+  sums-whole s n h = eight-same K s _ _ h (λ t l. sum-whole K (g t) (K .at zeros t) _ n (none .sum t l ∙ e) refl)
+
+-- a loop that is left at p has added n terms
+pub sums-end : (K : Kind) (g : ℕ → ℕ → K .Elem) (s : List (K .Cell)) (p n : ℕ) → p ≤ n → n ≤ p → Eight K s (λ t. sum K p (g t)) → Eight K s (λ t. sum K n (g t))
+sums-end K g s p n h l e = eight-same K s _ _ e (λ t q. sum-end K (g t) p n _ h l refl)
 
 -- ---- the eight of a column from row i on: op(A)'s rows are its transpose's columns, and the factors are multiplied in the other order
 

@@ -11,6 +11,7 @@ use Rattle.view.specs.declared.Side.{Side}
 use Rattle.view.specs.declared.Side.the-variants.{Left, Right}
 use Rattle.view.specs.declared.UpLo.{UpLo}
 use Rattle.view.specs.declared.UpLo.the-variants.{Upper, Lower}
+use Rattle.view.specs.Refusals.{limit}
 use Rattle.view.specs.Steps.{Accepted}
 use Rattle.view.specs.Place.{opViewOf}
 use Rattle.view.specs.TransposeLaws.{transposed-accepted}
@@ -40,6 +41,9 @@ spans f la lb m n k r i j from end h g s l =
 pub ready-kept : (plan : Plan) (la lb lc lc' : ℕ) → lc' ≡ lc → PlanReady plan la lb lc → PlanReady plan la lb lc'
 ready-kept plan la lb lc lc' e r = subst (λ (k : ℕ). PlanReady plan la lb k) (sym e) r
 
+pub accepted-kept : (v : View) (len len' : ℕ) → len' ≡ len → Accepted v len → Accepted v len'
+accepted-kept v len len' e r = subst (λ (k : ℕ). Accepted v k) (sym e) r
+
 pub folded-kept : (plan : Folded) (la lb lc lc' : ℕ) → lc' ≡ lc → FoldedReady plan la lb lc → FoldedReady plan la lb lc'
 folded-kept plan la lb lc lc' e r = subst (λ (k : ℕ). FoldedReady plan la lb k) (sym e) r
 
@@ -60,7 +64,7 @@ turn-later AtCol i j k h = omega arith
 turn-later PastCol i j k h = omega arith
 
 -- eight elements of a folded plan turn between the first one's turn and the last one's
-module _ (plan : Folded) (la lb i j : ℕ) (r : FoldedReads plan la lb) (h : i < plan .target .rows) (g : j + 8 ≤ plan .target .cols) where
+module _ (plan : Folded) (la lb i j : ℕ) (r : FoldedReads plan la lb) (h : i < plan .target .rows) (g : j + 8 ≤ plan .target .cols) (n : plan .target .cols ≤ limit) where
   pub eight-turns : (k l : ℕ) → k ≡ termsBefore (plan .turn) i j → l ≡ termsBefore (plan .turn) i (j + 7) → Turns plan la lb i j k l
   eight-turns k l ek el =
       let order = turn-later (plan .turn) i j (j + 7) (omega arith) in
@@ -71,6 +75,7 @@ module _ (plan : Folded) (la lb i j : ℕ) (r : FoldedReads plan la lb) (h : i <
         low = λ t q. omega (arith, ek, turn-later (plan .turn) i j (j + t) (omega arith));
         high = λ t q. omega (arith, el, turn-later (plan .turn) i (j + t) (j + 7) (omega arith));
         room = omega arith;
+        near = omega arith;
       }
 
 -- ---- op(A) op(B)

@@ -16,7 +16,7 @@ use Rattle.product_plan.specs.declared.plan.Factors.{Factors}
 use Rattle.product_plan.specs.declared.plan.Folded.{Folded}
 use Rattle.slab.proofs.RunLaws.{elem-conj-real}
 use Rattle.slab.specs.Run.{elemConj, plusTerms}
-use Rattle.product_plan.specs.Plan.{term, termsBefore, foldedProduct}
+use Rattle.product_plan.specs.Plan.{term, termsBefore, foldedTerm, foldedProduct}
 
 -- ---- a loop that adds terms from `from` on, at p
 
@@ -111,6 +111,21 @@ real-sum-next r f a b i j p acc u v m next e eu ev em en =
     sum-next (real r) (term (real r) f a b i j) p acc m next e
     (em ∙ (λ t. real r .mul ((eu ∙ elem-conj-real r (f .«left_conj») a (f .left) i p) t) ((ev ∙ elem-conj-real r (f .«right_conj») b (f .right) p j) t)))
     en
+
+-- ---- a term before the turn, and one after it, of real numbers
+
+module _ (r : Format) (plan : Folded) (a b : List Float) (i j p k : ℕ) (u v m : Float) (ek : k ≡ termsBefore (plan .turn) i j) where
+  pub before-turn : p < k → u ≡ elem (real r) a (plan .head .left) i p → v ≡ elem (real r) b (plan .head .right) p j → m ≡ real r .mul u v → m ≡ foldedTerm (real r) plan a b i j p
+  before-turn h eu ev em =
+      em
+      ∙ (λ t. real r .mul ((eu ∙ elem-conj-real r (plan .head .«left_conj») a (plan .head .left) i p) t) ((ev ∙ elem-conj-real r (plan .head .«right_conj») b (plan .head .right) p j) t))
+      ∙ ap (λ (c : Bool). cond c (term (real r) (plan .head) a b i j p) (term (real r) (plan .tail) a b i j p)) (sym (lt-ltb p _ (subst (λ (z : ℕ). p < z) ek h)))
+
+  pub after-turn : k ≤ p → u ≡ elem (real r) a (plan .tail .left) i p → v ≡ elem (real r) b (plan .tail .right) p j → m ≡ real r .mul u v → m ≡ foldedTerm (real r) plan a b i j p
+  after-turn h eu ev em =
+      em
+      ∙ (λ t. real r .mul ((eu ∙ elem-conj-real r (plan .tail .«left_conj») a (plan .tail .left) i p) t) ((ev ∙ elem-conj-real r (plan .tail .«right_conj») b (plan .tail .right) p j) t))
+      ∙ ap (λ (c : Bool). cond c (term (real r) (plan .head) a b i j p) (term (real r) (plan .tail) a b i j p)) (sym (le-ltb p _ (subst (λ (z : ℕ). z ≤ p) ek h)))
 
 -- ---- the terms before a turn and those after it
 

@@ -5,6 +5,7 @@ use mathlib.Core.List.{List}
 use mathlib.Core.Path.{_≡_}
 use lib.Dec.{ltb}
 use Rattle.number.specs.Kind.{Kind}
+use Rattle.view.specs.Refusals.{limit}
 use Rattle.view.specs.Steps.{Accepted}
 use Rattle.slab.specs.Run.{elemConj, plusTerms}
 use Rattle.slab.specs.Elem.{Within}
@@ -93,6 +94,7 @@ pub record Turns (plan : Folded) (la lb i j from end : ℕ) : Type 0 where
   pub low : (t : ℕ) → t < 8 → from ≤ termsBefore (plan .turn) i (j + t)
   pub high : (t : ℕ) → t < 8 → termsBefore (plan .turn) i (j + t) ≤ end
   pub room : end ≤ plan .terms
+  pub near : j + 8 ≤ limit
 
 -- the left operand is folded: the turn is the same in all columns of a row; no right factor is conjugated
 pub record ByRow (plan : Folded) : Type 0 where

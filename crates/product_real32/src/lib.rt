@@ -3,13 +3,18 @@
 
 ghost use mathlib.Core.Path.{_≡_};
 ghost use mathlib.Core.Bool.{true, false};
-ghost use Prim.Native.Nat.{_<_, _-_};
+ghost use Prim.Native.Nat.{_<_, _≤_, _+_, _-_};
+ghost use lib.IntN.{pos};
 ghost use Rattle.number.specs.Kind.{real32};
 ghost use Rattle.number.specs.Scaling.{scaleBy32};
+ghost use Rattle.view.specs.Refusals.{limit};
+ghost use Rattle.view.specs.Steps.{Accepted};
 ghost use Rattle.view.specs.Triangle.{inTriangle};
+ghost use Rattle.slab.specs.Eight.{Eight};
 ghost use Rattle.slab.specs.Run.{plusTerms};
 ghost use Rattle.slab.specs.Elem.{lent, Within};
-ghost use Rattle.slab.specs.Update.{everywhere, replaced, updateRow, update};
+ghost use Rattle.slab.specs.Update.{everywhere, replaced, span, spanRows, updateRow, update};
+ghost use Rattle.blas.specs.Matrix.{accumulate};
 ghost use Rattle.blas.specs.Outcome.{Gives};
 ghost use Rattle.blas.specs.Gemm;
 ghost use Rattle.blas.specs.Gemv;
@@ -19,7 +24,7 @@ ghost use Rattle.blas.specs.Herk;
 ghost use Rattle.blas.specs.Symm;
 ghost use Rattle.blas.specs.Syrk;
 ghost use Rattle.product_plan.specs.Plans.{ReadySided, sidedWork};
-ghost use Rattle.product_plan.specs.Plan.{term, planChange, foldedChange, foldedProduct, LeftWalk, RightWalk, FactorsWithin, PlanReady, FoldedReady, ByRow, ByCol};
+ghost use Rattle.product_plan.specs.Plan.{term, product, termsBefore, foldedTerm, turnedSum, planChange, foldedChange, foldedProduct, Block, Reads, FoldedReads, FactorsWithin, PlanReady, FoldedReady, Turns, ByRow};
 use judge::check_gemm;
 use judge::check_gemv;
 use judge::check_hemm;
@@ -42,9 +47,13 @@ use product_plan::gemv_plan;
 use product_plan::hemv_plan;
 use product_plan::herk_plan;
 use product_plan::left_plan;
-use product_plan::next_place;
 use product_plan::right_plan;
 use product_plan::syrk_plan;
+use product_plan::turn_at;
+use slab::add_beside32;
+use slab::add_eight32;
+use slab::block_end;
+use slab::block_start;
 use slab::elem32;
 use slab::get32;
 use slab::put32;
@@ -53,7 +62,6 @@ use view::Side;
 use view::Trans;
 use view::UpLo;
 use view::View;
-use view::col_step;
 use view::cols;
 use view::conjugates;
 use view::end_col;
@@ -61,8 +69,8 @@ use view::first_col;
 use view::op_view;
 use view::passed;
 use view::place;
-use view::row_step;
 use view::rows;
+use view::transposed;
 
 // The sum with the terms of element (i, j) from `from` to before `end` added.
 fn add_run(
@@ -115,8 +123,99 @@ fn entry(
     settle(plan.target, alpha, beta, c, i, j, sum);
 }
 
-// Elements (i, j) and (k, l) of the target, their sums side by side.
-fn two_entries(
+// The sums of elements (i, j) to (i, j + 7), with the terms from `from` to before `end` added, where the columns of the right factor lie side by side: the compiler then takes two at a time.
+fn add_beside(
+    f: Factors,
+    a: &[f32],
+    b: &[f32],
+    i: usize,
+    j: usize,
+    from: usize,
+    end: usize,
+    sums: [f32; 8],
+) -> [f32; 8]
+    requires { ⌜ FactorsWithin f (real32 .count (now a)) (real32 .count (now b)) i (j + 7) from end × (f .right .cs ≡ pos 1) ⌝ }
+    ensures { λ r. ⌜ Eight real32 r (λ t. plusTerms real32 (real32 .at sums t) (term real32 f (now (a .entry)) (now (b .entry)) i (j + t)) from (end - from)) ⌝ }
+{
+    let mut totals = sums;
+    let mut p = from;
+    while p < end {
+        let next = add_beside32(elem32(a, f.left, i, p), b, place(f.right, p, j), totals);
+        totals = next;
+        p += 1;
+    }
+    totals
+}
+
+// The same, however they lie.
+fn add_apart(
+    f: Factors,
+    a: &[f32],
+    b: &[f32],
+    i: usize,
+    j: usize,
+    from: usize,
+    end: usize,
+    sums: [f32; 8],
+) -> [f32; 8]
+    requires { ⌜ FactorsWithin f (real32 .count (now a)) (real32 .count (now b)) i (j + 7) from end ⌝ }
+    ensures { λ r. ⌜ Eight real32 r (λ t. plusTerms real32 (real32 .at sums t) (term real32 f (now (a .entry)) (now (b .entry)) i (j + t)) from (end - from)) ⌝ }
+{
+    let mut totals = sums;
+    let mut p = from;
+    while p < end {
+        let next = add_eight32(elem32(a, f.left, i, p), b, f.right, p, j, totals);
+        totals = next;
+        p += 1;
+    }
+    totals
+}
+
+// The same.
+fn add_eight(
+    f: Factors,
+    a: &[f32],
+    b: &[f32],
+    i: usize,
+    j: usize,
+    from: usize,
+    end: usize,
+    sums: [f32; 8],
+) -> [f32; 8]
+    requires { ⌜ FactorsWithin f (real32 .count (now a)) (real32 .count (now b)) i (j + 7) from end ⌝ }
+    ensures { λ r. ⌜ Eight real32 r (λ t. plusTerms real32 (real32 .at sums t) (term real32 f (now (a .entry)) (now (b .entry)) i (j + t)) from (end - from)) ⌝ }
+{
+    if f.right.cs == 1 {
+        add_beside(f, a, b, i, j, from, end, sums)
+    } else {
+        add_apart(f, a, b, i, j, from, end, sums)
+    }
+}
+
+// Elements (i, first) to before (i, end) of the target, with the sums of those from column `from` on.
+fn settle_block(
+    v: View,
+    alpha: Real32,
+    beta: Beta32,
+    c: &mut [f32],
+    i: usize,
+    from: usize,
+    first: usize,
+    end: usize,
+    sums: [f32; 8],
+)
+    requires { ⌜ Accepted v (real32 .count (now c)) × (i < v .rows) × Block from first end (v .cols) ⌝ }
+    ensures { λ _. ⌜ now (c .exit) ≡ span real32 v (accumulate real32 (scaleBy32 beta) (real32 .mul (alpha .0)) (λ i j. real32 .at sums (j - from))) i first end (now (c .entry)) ⌝ }
+{
+    let mut j = first;
+    while j < end {
+        settle(v, alpha, beta, c, i, j, Real32(sums[j - from]));
+        j += 1;
+    }
+}
+
+// The same, summed.
+fn block(
     plan: Plan,
     a: &[f32],
     b: &[f32],
@@ -124,34 +223,29 @@ fn two_entries(
     beta: Beta32,
     c: &mut [f32],
     i: usize,
-    j: usize,
-    k: usize,
-    l: usize,
+    from: usize,
+    first: usize,
+    end: usize,
 )
-    requires { ⌜ PlanReady plan (real32 .count (now a)) (real32 .count (now b)) (real32 .count (now c)) × (i < plan .target .rows) × (j < plan .target .cols) × (k < plan .target .rows) × (l < plan .target .cols) ⌝ }
-    ensures { λ _. ⌜ now (c .exit) ≡ replaced real32 (plan .target) k l (planChange real32 plan (scaleBy32 beta) (real32 .mul (alpha .0)) (now (a .entry)) (now (b .entry)) k l) (replaced real32 (plan .target) i j (planChange real32 plan (scaleBy32 beta) (real32 .mul (alpha .0)) (now (a .entry)) (now (b .entry)) i j) (now (c .entry))) ⌝ }
+    requires { ⌜ PlanReady plan (real32 .count (now a)) (real32 .count (now b)) (real32 .count (now c)) × (i < plan .target .rows) × Block from first end (plan .target .cols) ⌝ }
+    ensures { λ _. ⌜ now (c .exit) ≡ span real32 (plan .target) (planChange real32 plan (scaleBy32 beta) (real32 .mul (alpha .0)) (now (a .entry)) (now (b .entry))) i first end (now (c .entry)) ⌝ }
 {
-    let n = plan.terms;
-    let mut first = Real32::ZERO;
-    let mut second = Real32::ZERO;
-    let mut p = 0;
-    while p < n {
-        first = first.add(elem32(a, plan.factors.left, i, p).mul(elem32(
-            b,
-            plan.factors.right,
-            p,
-            j,
-        )));
-        second = second.add(elem32(a, plan.factors.left, k, p).mul(elem32(
-            b,
-            plan.factors.right,
-            p,
-            l,
-        )));
-        p += 1;
+    let sums = add_eight(plan.factors, a, b, i, from, 0, plan.terms, [0.0; 8]);
+    settle_block(plan.target, alpha, beta, c, i, from, first, end, sums);
+}
+
+// Row i of the target, eight columns at a time.
+fn wide_row(plan: Plan, a: &[f32], b: &[f32], alpha: Real32, beta: Beta32, c: &mut [f32], i: usize)
+    requires { ⌜ PlanReady plan (real32 .count (now a)) (real32 .count (now b)) (real32 .count (now c)) × (i < plan .target .rows) × (8 ≤ plan .target .cols) ⌝ }
+    ensures { λ _. ⌜ now (c .exit) ≡ updateRow real32 (plan .target) everywhere (planChange real32 plan (scaleBy32 beta) (real32 .mul (alpha .0)) (now (a .entry)) (now (b .entry))) i (plan .target .cols) (now (c .entry)) ⌝ }
+{
+    let n = cols(plan.target);
+    let mut j = 0;
+    while j < n {
+        let from = block_start(j, n);
+        block(plan, a, b, alpha, beta, c, i, from, j, from + 8);
+        j = from + 8;
     }
-    settle(plan.target, alpha, beta, c, i, j, first);
-    settle(plan.target, alpha, beta, c, k, l, second);
 }
 
 // Row i of the target.
@@ -160,19 +254,15 @@ fn row(plan: Plan, a: &[f32], b: &[f32], alpha: Real32, beta: Beta32, c: &mut [f
     ensures { λ _. ⌜ now (c .exit) ≡ updateRow real32 (plan .target) everywhere (planChange real32 plan (scaleBy32 beta) (real32 .mul (alpha .0)) (now (a .entry)) (now (b .entry))) i (plan .target .cols) (now (c .entry)) ⌝ }
 {
     let n = cols(plan.target);
-    let pairs = n / 2;
     let mut j = 0;
-    while j < pairs {
-        two_entries(plan, a, b, alpha, beta, c, i, 2 * j, i, 2 * j + 1);
+    while j < n {
+        entry(plan, a, b, alpha, beta, c, i, j);
         j += 1;
-    }
-    if 2 * j < n {
-        entry(plan, a, b, alpha, beta, c, i, 2 * j);
     }
 }
 
-// The whole target.
-fn run(plan: Plan, a: &[f32], b: &[f32], alpha: Real32, beta: Beta32, c: &mut [f32])
+// The whole target, element by element.
+fn run_plain(plan: Plan, a: &[f32], b: &[f32], alpha: Real32, beta: Beta32, c: &mut [f32])
     requires { ⌜ PlanReady plan (real32 .count (now a)) (real32 .count (now b)) (real32 .count (now c)) ⌝ }
     ensures { λ _. ⌜ now (c .exit) ≡ update real32 (plan .target) everywhere (planChange real32 plan (scaleBy32 beta) (real32 .mul (alpha .0)) (now (a .entry)) (now (b .entry))) (now (c .entry)) ⌝ }
 {
@@ -184,63 +274,132 @@ fn run(plan: Plan, a: &[f32], b: &[f32], alpha: Real32, beta: Beta32, c: &mut [f
     }
 }
 
+// The whole target, eight columns at a time.
+fn run_wide(plan: Plan, a: &[f32], b: &[f32], alpha: Real32, beta: Beta32, c: &mut [f32])
+    requires { ⌜ PlanReady plan (real32 .count (now a)) (real32 .count (now b)) (real32 .count (now c)) × (8 ≤ plan .target .cols) ⌝ }
+    ensures { λ _. ⌜ now (c .exit) ≡ update real32 (plan .target) everywhere (planChange real32 plan (scaleBy32 beta) (real32 .mul (alpha .0)) (now (a .entry)) (now (b .entry))) (now (c .entry)) ⌝ }
+{
+    let m = rows(plan.target);
+    let mut i = 0;
+    while i < m {
+        wide_row(plan, a, b, alpha, beta, c, i);
+        i += 1;
+    }
+}
+
+// The whole target.
+fn run(plan: Plan, a: &[f32], b: &[f32], alpha: Real32, beta: Beta32, c: &mut [f32])
+    requires { ⌜ PlanReady plan (real32 .count (now a)) (real32 .count (now b)) (real32 .count (now c)) ⌝ }
+    ensures { λ _. ⌜ now (c .exit) ≡ update real32 (plan .target) everywhere (planChange real32 plan (scaleBy32 beta) (real32 .mul (alpha .0)) (now (a .entry)) (now (b .entry))) (now (c .entry)) ⌝ }
+{
+    if 8 <= cols(plan.target) {
+        run_wide(plan, a, b, alpha, beta, c);
+    } else {
+        run_plain(plan, a, b, alpha, beta, c);
+    }
+}
+
+// The sums of the eight elements of a column from row i on: op(A)'s rows lie apart as its transpose's columns do.
+fn column_sums(plan: Plan, a: &[f32], b: &[f32], i: usize) -> [f32; 8]
+    requires { ⌜ Reads (plan .factors) (real32 .count (now a)) (real32 .count (now b)) (plan .target .rows) (plan .target .cols) (plan .terms) × (i + 8 ≤ plan .target .rows) × (plan .target .cols ≡ 1) ⌝ }
+    ensures { λ r. ⌜ Eight real32 r (λ t. product real32 plan (now (a .entry)) (now (b .entry)) (i + t) 0) ⌝ }
+{
+    let v = transposed(plan.factors.left);
+    let n = plan.terms;
+    let mut sums = [0.0; 8];
+    let mut p = 0;
+    while p < n {
+        let next = add_eight32(elem32(b, plan.factors.right, p, 0), a, v, p, i, sums);
+        sums = next;
+        p += 1;
+    }
+    sums
+}
+
+// Elements `first` to before from + 8 of a column, with the sums of those from `from` on.
+fn settle_column(
+    v: View,
+    alpha: Real32,
+    beta: Beta32,
+    c: &mut [f32],
+    from: usize,
+    first: usize,
+    sums: [f32; 8],
+)
+    requires { ⌜ Accepted v (real32 .count (now c)) × (v .cols ≡ 1) × Block from first (from + 8) (v .rows) ⌝ }
+    ensures { λ _. ⌜ now (c .exit) ≡ spanRows real32 v (accumulate real32 (scaleBy32 beta) (real32 .mul (alpha .0)) (λ i j. real32 .at sums (i - from))) first (from + 8) (now (c .entry)) ⌝ }
+{
+    let end = from + 8;
+    let mut i = first;
+    while i < end {
+        settle(v, alpha, beta, c, i, 0, Real32(sums[i - from]));
+        i += 1;
+    }
+}
+
+// The whole target, which is a column, eight rows at a time.
+fn column_wide(plan: Plan, a: &[f32], b: &[f32], alpha: Real32, beta: Beta32, c: &mut [f32])
+    requires { ⌜ PlanReady plan (real32 .count (now a)) (real32 .count (now b)) (real32 .count (now c)) × (plan .target .cols ≡ 1) × (8 ≤ plan .target .rows) ⌝ }
+    ensures { λ _. ⌜ now (c .exit) ≡ update real32 (plan .target) everywhere (planChange real32 plan (scaleBy32 beta) (real32 .mul (alpha .0)) (now (a .entry)) (now (b .entry))) (now (c .entry)) ⌝ }
+{
+    let m = rows(plan.target);
+    let mut i = 0;
+    while i < m {
+        let from = block_start(i, m);
+        let sums = column_sums(plan, a, b, from);
+        settle_column(plan.target, alpha, beta, c, from, i, sums);
+        i = from + 8;
+    }
+}
+
+// The whole target, which is a column, element by element.
+fn column_plain(plan: Plan, a: &[f32], b: &[f32], alpha: Real32, beta: Beta32, c: &mut [f32])
+    requires { ⌜ PlanReady plan (real32 .count (now a)) (real32 .count (now b)) (real32 .count (now c)) × (plan .target .cols ≡ 1) ⌝ }
+    ensures { λ _. ⌜ now (c .exit) ≡ update real32 (plan .target) everywhere (planChange real32 plan (scaleBy32 beta) (real32 .mul (alpha .0)) (now (a .entry)) (now (b .entry))) (now (c .entry)) ⌝ }
+{
+    let m = rows(plan.target);
+    let mut i = 0;
+    while i < m {
+        entry(plan, a, b, alpha, beta, c, i, 0);
+        i += 1;
+    }
+}
+
 // The whole target, which is a column.
 fn run_column(plan: Plan, a: &[f32], b: &[f32], alpha: Real32, beta: Beta32, c: &mut [f32])
     requires { ⌜ PlanReady plan (real32 .count (now a)) (real32 .count (now b)) (real32 .count (now c)) × (plan .target .cols ≡ 1) ⌝ }
     ensures { λ _. ⌜ now (c .exit) ≡ update real32 (plan .target) everywhere (planChange real32 plan (scaleBy32 beta) (real32 .mul (alpha .0)) (now (a .entry)) (now (b .entry))) (now (c .entry)) ⌝ }
 {
-    let m = rows(plan.target);
-    let pairs = m / 2;
-    let mut i = 0;
-    while i < pairs {
-        two_entries(plan, a, b, alpha, beta, c, 2 * i, 0, 2 * i + 1, 0);
-        i += 1;
-    }
-    if 2 * i < m {
-        entry(plan, a, b, alpha, beta, c, 2 * i, 0);
+    if 8 <= rows(plan.target) {
+        column_wide(plan, a, b, alpha, beta, c);
+    } else {
+        column_plain(plan, a, b, alpha, beta, c);
     }
 }
 
-// Element (i, j) of the product where the left operand is folded: its row is walked by one stride to the diagonal, and by the other from there.
-fn left_sum(plan: Folded, a: &[f32], b: &[f32], i: usize, j: usize) -> Real32
-    requires { ⌜ LeftWalk plan (real32 .count (now a)) (real32 .count (now b)) i j ⌝ }
-    ensures { λ r. ⌜ r .0 ≡ foldedProduct real32 plan (now (a .entry)) (now (b .entry)) i j ⌝ }
+// Element (i, j) of a folded plan's target, where the sum turns after k terms.
+fn turned_entry(
+    plan: Folded,
+    k: usize,
+    a: &[f32],
+    b: &[f32],
+    alpha: Real32,
+    beta: Beta32,
+    c: &mut [f32],
+    i: usize,
+    j: usize,
+)
+    requires { ⌜ FoldedReady plan (real32 .count (now a)) (real32 .count (now b)) (real32 .count (now c)) × (i < plan .target .rows) × (j < plan .target .cols) × (k ≡ termsBefore (plan .turn) i j) ⌝ }
+    ensures { λ _. ⌜ now (c .exit) ≡ replaced real32 (plan .target) i j (foldedChange real32 plan (scaleBy32 beta) (real32 .mul (alpha .0)) (now (a .entry)) (now (b .entry)) i j) (now (c .entry)) ⌝ }
 {
     let n = plan.terms;
-    let before = col_step(plan.head.left);
-    let after = col_step(plan.tail.left);
-    let mut k = place(plan.head.left, i, 0);
-    let mut total = Real32::ZERO;
-    let mut p = 0;
-    while p < n {
-        total = total.add(get32(a, k).mul(elem32(b, plan.head.right, p, j)));
-        k = next_place(k, before, after, i, p);
-        p += 1;
-    }
-    total
+    let head = add_run(plan.head, a, b, i, j, 0, k, Real32::ZERO);
+    let sum = add_run(plan.tail, a, b, i, j, k, n, head);
+    settle(plan.target, alpha, beta, c, i, j, sum);
 }
 
-// The same where the right operand is folded, with its column.
-fn right_sum(plan: Folded, a: &[f32], b: &[f32], i: usize, j: usize) -> Real32
-    requires { ⌜ RightWalk plan (real32 .count (now a)) (real32 .count (now b)) i j ⌝ }
-    ensures { λ r. ⌜ r .0 ≡ foldedProduct real32 plan (now (a .entry)) (now (b .entry)) i j ⌝ }
-{
-    let n = plan.terms;
-    let before = row_step(plan.head.right);
-    let after = row_step(plan.tail.right);
-    let mut k = place(plan.head.right, 0, j);
-    let mut total = Real32::ZERO;
-    let mut p = 0;
-    while p < n {
-        total = total.add(elem32(a, plan.head.left, i, p).mul(get32(b, k)));
-        k = next_place(k, before, after, j, p);
-        p += 1;
-    }
-    total
-}
-
-// Element (i, j) of the target, with the left operand folded.
-fn left_entry(
+// The same, with its turn found.
+fn folded_entry(
     plan: Folded,
     a: &[f32],
     b: &[f32],
@@ -250,40 +409,23 @@ fn left_entry(
     i: usize,
     j: usize,
 )
-    requires { ⌜ FoldedReady plan (real32 .count (now a)) (real32 .count (now b)) (real32 .count (now c)) × ByRow plan × (i < plan .target .rows) × (j < plan .target .cols) ⌝ }
+    requires { ⌜ FoldedReady plan (real32 .count (now a)) (real32 .count (now b)) (real32 .count (now c)) × (i < plan .target .rows) × (j < plan .target .cols) ⌝ }
     ensures { λ _. ⌜ now (c .exit) ≡ replaced real32 (plan .target) i j (foldedChange real32 plan (scaleBy32 beta) (real32 .mul (alpha .0)) (now (a .entry)) (now (b .entry)) i j) (now (c .entry)) ⌝ }
 {
-    let sum = left_sum(plan, a, b, i, j);
-    settle(plan.target, alpha, beta, c, i, j, sum);
-}
-
-// Element (i, j) of the target, with the right operand folded.
-fn right_entry(
-    plan: Folded,
-    a: &[f32],
-    b: &[f32],
-    alpha: Real32,
-    beta: Beta32,
-    c: &mut [f32],
-    i: usize,
-    j: usize,
-)
-    requires { ⌜ FoldedReady plan (real32 .count (now a)) (real32 .count (now b)) (real32 .count (now c)) × ByCol plan × (i < plan .target .rows) × (j < plan .target .cols) ⌝ }
-    ensures { λ _. ⌜ now (c .exit) ≡ replaced real32 (plan .target) i j (foldedChange real32 plan (scaleBy32 beta) (real32 .mul (alpha .0)) (now (a .entry)) (now (b .entry)) i j) (now (c .entry)) ⌝ }
-{
-    let sum = right_sum(plan, a, b, i, j);
-    settle(plan.target, alpha, beta, c, i, j, sum);
+    let turn = plan.turn;
+    let k = turn_at(turn, i, j, plan.terms);
+    turned_entry(plan, k, a, b, alpha, beta, c, i, j);
 }
 
 // The whole target, which is a column.
 fn run_left_column(plan: Folded, a: &[f32], b: &[f32], alpha: Real32, beta: Beta32, c: &mut [f32])
-    requires { ⌜ FoldedReady plan (real32 .count (now a)) (real32 .count (now b)) (real32 .count (now c)) × ByRow plan × (plan .target .cols ≡ 1) ⌝ }
+    requires { ⌜ FoldedReady plan (real32 .count (now a)) (real32 .count (now b)) (real32 .count (now c)) × (plan .target .cols ≡ 1) ⌝ }
     ensures { λ _. ⌜ now (c .exit) ≡ update real32 (plan .target) everywhere (foldedChange real32 plan (scaleBy32 beta) (real32 .mul (alpha .0)) (now (a .entry)) (now (b .entry))) (now (c .entry)) ⌝ }
 {
     let m = rows(plan.target);
     let mut i = 0;
     while i < m {
-        left_entry(plan, a, b, alpha, beta, c, i, 0);
+        folded_entry(plan, a, b, alpha, beta, c, i, 0);
         i += 1;
     }
 }
@@ -379,8 +521,8 @@ pub fn gemm(
     answer
 }
 
-// Elements (i, j) and (i, l) of the target, with the left operand folded: their sums side by side, along one walk of its row.
-fn two_left_entries(
+// Row i of a folded plan's target, element by element.
+fn folded_row(
     plan: Folded,
     a: &[f32],
     b: &[f32],
@@ -388,28 +530,201 @@ fn two_left_entries(
     beta: Beta32,
     c: &mut [f32],
     i: usize,
-    j: usize,
-    l: usize,
 )
-    requires { ⌜ FoldedReady plan (real32 .count (now a)) (real32 .count (now b)) (real32 .count (now c)) × ByRow plan × (i < plan .target .rows) × (j < plan .target .cols) × (l < plan .target .cols) ⌝ }
-    ensures { λ _. ⌜ now (c .exit) ≡ replaced real32 (plan .target) i l (foldedChange real32 plan (scaleBy32 beta) (real32 .mul (alpha .0)) (now (a .entry)) (now (b .entry)) i l) (replaced real32 (plan .target) i j (foldedChange real32 plan (scaleBy32 beta) (real32 .mul (alpha .0)) (now (a .entry)) (now (b .entry)) i j) (now (c .entry))) ⌝ }
+    requires { ⌜ FoldedReady plan (real32 .count (now a)) (real32 .count (now b)) (real32 .count (now c)) × (i < plan .target .rows) ⌝ }
+    ensures { λ _. ⌜ now (c .exit) ≡ updateRow real32 (plan .target) everywhere (foldedChange real32 plan (scaleBy32 beta) (real32 .mul (alpha .0)) (now (a .entry)) (now (b .entry))) i (plan .target .cols) (now (c .entry)) ⌝ }
+{
+    let n = cols(plan.target);
+    let mut j = 0;
+    while j < n {
+        folded_entry(plan, a, b, alpha, beta, c, i, j);
+        j += 1;
+    }
+}
+
+// The whole target, element by element.
+fn run_folded(plan: Folded, a: &[f32], b: &[f32], alpha: Real32, beta: Beta32, c: &mut [f32])
+    requires { ⌜ FoldedReady plan (real32 .count (now a)) (real32 .count (now b)) (real32 .count (now c)) ⌝ }
+    ensures { λ _. ⌜ now (c .exit) ≡ update real32 (plan .target) everywhere (foldedChange real32 plan (scaleBy32 beta) (real32 .mul (alpha .0)) (now (a .entry)) (now (b .entry))) (now (c .entry)) ⌝ }
+{
+    let m = rows(plan.target);
+    let mut i = 0;
+    while i < m {
+        folded_row(plan, a, b, alpha, beta, c, i);
+        i += 1;
+    }
+}
+
+// The sum of element (i, j) with the terms from `from` to before `end` added, of which those from k on are after the turn.
+fn add_turned(
+    plan: Folded,
+    a: &[f32],
+    b: &[f32],
+    i: usize,
+    j: usize,
+    from: usize,
+    k: usize,
+    end: usize,
+    sum: Real32,
+) -> Real32
+    requires { ⌜ FactorsWithin (plan .head) (real32 .count (now a)) (real32 .count (now b)) i j from k × FactorsWithin (plan .tail) (real32 .count (now a)) (real32 .count (now b)) i j k end ⌝ }
+    ensures { λ r. ⌜ r .0 ≡ plusTerms real32 (plusTerms real32 (sum .0) (term real32 (plan .head) (now (a .entry)) (now (b .entry)) i j) from (k - from)) (term real32 (plan .tail) (now (a .entry)) (now (b .entry)) i j) k (end - k) ⌝ }
+{
+    let head = add_run(plan.head, a, b, i, j, from, k, sum);
+    add_run(plan.tail, a, b, i, j, k, end, head)
+}
+
+// The sums of elements (i, j) to (i, j + 7), with the terms from `from` to before `end` added, among which each of them turns.
+fn add_turns(
+    plan: Folded,
+    a: &[f32],
+    b: &[f32],
+    i: usize,
+    j: usize,
+    from: usize,
+    end: usize,
+    sums: [f32; 8],
+) -> [f32; 8]
+    requires { ⌜ Turns plan (real32 .count (now a)) (real32 .count (now b)) i j from end ⌝ }
+    ensures { λ r. ⌜ Eight real32 r (λ t. turnedSum real32 plan (now (a .entry)) (now (b .entry)) i (j + t) from end (real32 .at sums t)) ⌝ }
+{
+    let turn = plan.turn;
+    let n = plan.terms;
+    let mut totals = sums;
+    let mut t = 0;
+    while t < 8 {
+        let k = turn_at(turn, i, j + t, n);
+        totals[t] = add_turned(plan, a, b, i, j + t, from, k, end, Real32(totals[t])).0;
+        t += 1;
+    }
+    totals
+}
+
+// The same, where they may all turn at once.
+fn bend(
+    plan: Folded,
+    a: &[f32],
+    b: &[f32],
+    i: usize,
+    j: usize,
+    from: usize,
+    end: usize,
+    sums: [f32; 8],
+) -> [f32; 8]
+    requires { ⌜ Turns plan (real32 .count (now a)) (real32 .count (now b)) i j from end ⌝ }
+    ensures { λ r. ⌜ Eight real32 r (λ t. turnedSum real32 plan (now (a .entry)) (now (b .entry)) i (j + t) from end (real32 .at sums t)) ⌝ }
+{
+    if from < end {
+        add_turns(plan, a, b, i, j, from, end, sums)
+    } else {
+        sums
+    }
+}
+
+// The sums of elements (i, j) to (i, j + 7) of a folded plan.
+fn folded_eight(plan: Folded, a: &[f32], b: &[f32], i: usize, j: usize) -> [f32; 8]
+    requires { ⌜ FoldedReads plan (real32 .count (now a)) (real32 .count (now b)) × (i < plan .target .rows) × (j + 8 ≤ plan .target .cols) × (plan .target .cols ≤ limit) ⌝ }
+    ensures { λ r. ⌜ Eight real32 r (λ t. foldedProduct real32 plan (now (a .entry)) (now (b .entry)) i (j + t)) ⌝ }
+{
+    let turn = plan.turn;
+    let n = plan.terms;
+    let k = turn_at(turn, i, j, n);
+    let l = turn_at(turn, i, j + 7, n);
+    let head = add_eight(plan.head, a, b, i, j, 0, k, [0.0; 8]);
+    let bent = bend(plan, a, b, i, j, k, l, head);
+    add_eight(plan.tail, a, b, i, j, l, n, bent)
+}
+
+// Elements (i, first) to before (i, end) of a folded plan's target, among the eight from column `from` on.
+fn folded_block(
+    plan: Folded,
+    a: &[f32],
+    b: &[f32],
+    alpha: Real32,
+    beta: Beta32,
+    c: &mut [f32],
+    i: usize,
+    from: usize,
+    first: usize,
+    end: usize,
+)
+    requires { ⌜ FoldedReady plan (real32 .count (now a)) (real32 .count (now b)) (real32 .count (now c)) × (i < plan .target .rows) × Block from first end (plan .target .cols) ⌝ }
+    ensures { λ _. ⌜ now (c .exit) ≡ span real32 (plan .target) (foldedChange real32 plan (scaleBy32 beta) (real32 .mul (alpha .0)) (now (a .entry)) (now (b .entry))) i first end (now (c .entry)) ⌝ }
+{
+    let sums = folded_eight(plan, a, b, i, from);
+    settle_block(plan.target, alpha, beta, c, i, from, first, end, sums);
+}
+
+// Row i of a folded plan's target, eight columns at a time.
+fn folded_wide_row(
+    plan: Folded,
+    a: &[f32],
+    b: &[f32],
+    alpha: Real32,
+    beta: Beta32,
+    c: &mut [f32],
+    i: usize,
+)
+    requires { ⌜ FoldedReady plan (real32 .count (now a)) (real32 .count (now b)) (real32 .count (now c)) × (i < plan .target .rows) × (8 ≤ plan .target .cols) ⌝ }
+    ensures { λ _. ⌜ now (c .exit) ≡ updateRow real32 (plan .target) everywhere (foldedChange real32 plan (scaleBy32 beta) (real32 .mul (alpha .0)) (now (a .entry)) (now (b .entry))) i (plan .target .cols) (now (c .entry)) ⌝ }
+{
+    let n = cols(plan.target);
+    let mut j = 0;
+    while j < n {
+        let from = block_start(j, n);
+        folded_block(plan, a, b, alpha, beta, c, i, from, j, from + 8);
+        j = from + 8;
+    }
+}
+
+// The whole target, eight columns at a time.
+fn run_folded_wide(plan: Folded, a: &[f32], b: &[f32], alpha: Real32, beta: Beta32, c: &mut [f32])
+    requires { ⌜ FoldedReady plan (real32 .count (now a)) (real32 .count (now b)) (real32 .count (now c)) × (8 ≤ plan .target .cols) ⌝ }
+    ensures { λ _. ⌜ now (c .exit) ≡ update real32 (plan .target) everywhere (foldedChange real32 plan (scaleBy32 beta) (real32 .mul (alpha .0)) (now (a .entry)) (now (b .entry))) (now (c .entry)) ⌝ }
+{
+    let m = rows(plan.target);
+    let mut i = 0;
+    while i < m {
+        folded_wide_row(plan, a, b, alpha, beta, c, i);
+        i += 1;
+    }
+}
+
+// Term p of element (i, j), of which the terms from k on are after the turn.
+fn folded_term(plan: Folded, k: usize, a: &[f32], b: &[f32], i: usize, j: usize, p: usize) -> Real32
+    requires { ⌜ FoldedReads plan (real32 .count (now a)) (real32 .count (now b)) × (i < plan .target .rows) × (j < plan .target .cols) × (p < plan .terms) × (k ≡ termsBefore (plan .turn) i j) ⌝ }
+    ensures { λ r. ⌜ r .0 ≡ foldedTerm real32 plan (now (a .entry)) (now (b .entry)) i j p ⌝ }
+{
+    if p < k {
+        elem32(a, plan.head.left, i, p).mul(elem32(b, plan.head.right, p, j))
+    } else {
+        elem32(a, plan.tail.left, i, p).mul(elem32(b, plan.tail.right, p, j))
+    }
+}
+
+// Element (i, j) of a folded plan's target, term by term, where the sum turns after k terms.
+fn small_entry(
+    plan: Folded,
+    k: usize,
+    a: &[f32],
+    b: &[f32],
+    alpha: Real32,
+    beta: Beta32,
+    c: &mut [f32],
+    i: usize,
+    j: usize,
+)
+    requires { ⌜ FoldedReady plan (real32 .count (now a)) (real32 .count (now b)) (real32 .count (now c)) × (i < plan .target .rows) × (j < plan .target .cols) × (k ≡ termsBefore (plan .turn) i j) ⌝ }
+    ensures { λ _. ⌜ now (c .exit) ≡ replaced real32 (plan .target) i j (foldedChange real32 plan (scaleBy32 beta) (real32 .mul (alpha .0)) (now (a .entry)) (now (b .entry)) i j) (now (c .entry)) ⌝ }
 {
     let n = plan.terms;
-    let before = col_step(plan.head.left);
-    let after = col_step(plan.tail.left);
-    let mut k = place(plan.head.left, i, 0);
-    let mut first = Real32::ZERO;
-    let mut second = Real32::ZERO;
+    let mut total = Real32::ZERO;
     let mut p = 0;
     while p < n {
-        let x = get32(a, k);
-        first = first.add(x.mul(elem32(b, plan.head.right, p, j)));
-        second = second.add(x.mul(elem32(b, plan.head.right, p, l)));
-        k = next_place(k, before, after, i, p);
+        total = total.add(folded_term(plan, k, a, b, i, j, p));
         p += 1;
     }
-    settle(plan.target, alpha, beta, c, i, j, first);
-    settle(plan.target, alpha, beta, c, i, l, second);
+    settle(plan.target, alpha, beta, c, i, j, total);
 }
 
 // Row i of symm with A on the left.
@@ -425,20 +740,18 @@ fn symm_left_row(
     requires { ⌜ FoldedReady plan (real32 .count (now a)) (real32 .count (now b)) (real32 .count (now c)) × ByRow plan × (i < plan .target .rows) ⌝ }
     ensures { λ _. ⌜ now (c .exit) ≡ updateRow real32 (plan .target) everywhere (foldedChange real32 plan (scaleBy32 beta) (real32 .mul (alpha .0)) (now (a .entry)) (now (b .entry))) i (plan .target .cols) (now (c .entry)) ⌝ }
 {
+    let turn = plan.turn;
+    let k = turn_at(turn, i, 0, plan.terms);
     let n = cols(plan.target);
-    let pairs = n / 2;
     let mut j = 0;
-    while j < pairs {
-        two_left_entries(plan, a, b, alpha, beta, c, i, 2 * j, 2 * j + 1);
+    while j < n {
+        small_entry(plan, k, a, b, alpha, beta, c, i, j);
         j += 1;
-    }
-    if 2 * j < n {
-        left_entry(plan, a, b, alpha, beta, c, i, 2 * j);
     }
 }
 
-// The whole target of symm with A on the left.
-fn run_symm_left(plan: Folded, a: &[f32], b: &[f32], alpha: Real32, beta: Beta32, c: &mut [f32])
+// The whole target of symm with A on the left, term by term.
+fn symm_left_small(plan: Folded, a: &[f32], b: &[f32], alpha: Real32, beta: Beta32, c: &mut [f32])
     requires { ⌜ FoldedReady plan (real32 .count (now a)) (real32 .count (now b)) (real32 .count (now c)) × ByRow plan ⌝ }
     ensures { λ _. ⌜ now (c .exit) ≡ update real32 (plan .target) everywhere (foldedChange real32 plan (scaleBy32 beta) (real32 .mul (alpha .0)) (now (a .entry)) (now (b .entry))) (now (c .entry)) ⌝ }
 {
@@ -447,6 +760,51 @@ fn run_symm_left(plan: Folded, a: &[f32], b: &[f32], alpha: Real32, beta: Beta32
     while i < m {
         symm_left_row(plan, a, b, alpha, beta, c, i);
         i += 1;
+    }
+}
+
+// symm with A on the left.
+fn symm_left(
+    uplo: UpLo,
+    alpha: Real32,
+    a: &[f32],
+    va: View,
+    b: &[f32],
+    vb: View,
+    beta: Beta32,
+    c: &mut [f32],
+    vc: View,
+)
+    requires { ⌜ ReadySided Side.Left false uplo va (real32 .count (now a)) vb (real32 .count (now b)) vc (real32 .count (now c)) ⌝ }
+    ensures { λ _. ⌜ now (c .exit) ≡ sidedWork real32 Side.Left false uplo va vb vc (scaleBy32 beta) (real32 .mul (alpha .0)) (now (a .entry)) (now (b .entry)) (now (c .entry)) ⌝ }
+{
+    if 8 <= cols(vc) {
+        run_folded_wide(
+            left_plan(false, uplo, va, vb, rows(vc), vc),
+            a,
+            b,
+            alpha,
+            beta,
+            c,
+        );
+    } else if 8 <= rows(vc) {
+        run_folded(
+            left_plan(false, uplo, va, vb, rows(vc), vc),
+            a,
+            b,
+            alpha,
+            beta,
+            c,
+        );
+    } else {
+        symm_left_small(
+            left_plan(false, uplo, va, vb, rows(vc), vc),
+            a,
+            b,
+            alpha,
+            beta,
+            c,
+        );
     }
 }
 
@@ -460,20 +818,23 @@ fn symm_right_row(
     c: &mut [f32],
     i: usize,
 )
-    requires { ⌜ FoldedReady plan (real32 .count (now a)) (real32 .count (now b)) (real32 .count (now c)) × ByCol plan × (i < plan .target .rows) ⌝ }
+    requires { ⌜ FoldedReady plan (real32 .count (now a)) (real32 .count (now b)) (real32 .count (now c)) × (i < plan .target .rows) ⌝ }
     ensures { λ _. ⌜ now (c .exit) ≡ updateRow real32 (plan .target) everywhere (foldedChange real32 plan (scaleBy32 beta) (real32 .mul (alpha .0)) (now (a .entry)) (now (b .entry))) i (plan .target .cols) (now (c .entry)) ⌝ }
 {
+    let turn = plan.turn;
+    let m = plan.terms;
     let n = cols(plan.target);
     let mut j = 0;
     while j < n {
-        right_entry(plan, a, b, alpha, beta, c, i, j);
+        let k = turn_at(turn, i, j, m);
+        small_entry(plan, k, a, b, alpha, beta, c, i, j);
         j += 1;
     }
 }
 
-// The whole target of symm with A on the right.
-fn run_symm_right(plan: Folded, a: &[f32], b: &[f32], alpha: Real32, beta: Beta32, c: &mut [f32])
-    requires { ⌜ FoldedReady plan (real32 .count (now a)) (real32 .count (now b)) (real32 .count (now c)) × ByCol plan ⌝ }
+// The whole target of symm with A on the right, term by term.
+fn symm_right_small(plan: Folded, a: &[f32], b: &[f32], alpha: Real32, beta: Beta32, c: &mut [f32])
+    requires { ⌜ FoldedReady plan (real32 .count (now a)) (real32 .count (now b)) (real32 .count (now c)) ⌝ }
     ensures { λ _. ⌜ now (c .exit) ≡ update real32 (plan .target) everywhere (foldedChange real32 plan (scaleBy32 beta) (real32 .mul (alpha .0)) (now (a .entry)) (now (b .entry))) (now (c .entry)) ⌝ }
 {
     let m = rows(plan.target);
@@ -481,6 +842,42 @@ fn run_symm_right(plan: Folded, a: &[f32], b: &[f32], alpha: Real32, beta: Beta3
     while i < m {
         symm_right_row(plan, a, b, alpha, beta, c, i);
         i += 1;
+    }
+}
+
+// symm with A on the right.
+fn symm_right(
+    uplo: UpLo,
+    alpha: Real32,
+    a: &[f32],
+    va: View,
+    b: &[f32],
+    vb: View,
+    beta: Beta32,
+    c: &mut [f32],
+    vc: View,
+)
+    requires { ⌜ ReadySided Side.Right false uplo va (real32 .count (now a)) vb (real32 .count (now b)) vc (real32 .count (now c)) ⌝ }
+    ensures { λ _. ⌜ now (c .exit) ≡ sidedWork real32 Side.Right false uplo va vb vc (scaleBy32 beta) (real32 .mul (alpha .0)) (now (a .entry)) (now (b .entry)) (now (c .entry)) ⌝ }
+{
+    if 8 <= cols(vc) {
+        run_folded_wide(
+            right_plan(false, uplo, va, vb, cols(vc), vc),
+            b,
+            a,
+            alpha,
+            beta,
+            c,
+        );
+    } else {
+        symm_right_small(
+            right_plan(false, uplo, va, vb, cols(vc), vc),
+            b,
+            a,
+            alpha,
+            beta,
+            c,
+        );
     }
 }
 
@@ -501,22 +898,8 @@ fn symm_sided(
     ensures { λ _. ⌜ now (c .exit) ≡ sidedWork real32 side false uplo va vb vc (scaleBy32 beta) (real32 .mul (alpha .0)) (now (a .entry)) (now (b .entry)) (now (c .entry)) ⌝ }
 {
     match side {
-        Side::Left => run_symm_left(
-            left_plan(false, uplo, va, vb, rows(vc), vc),
-            a,
-            b,
-            alpha,
-            beta,
-            c,
-        ),
-        Side::Right => run_symm_right(
-            right_plan(false, uplo, va, vb, cols(vc), vc),
-            b,
-            a,
-            alpha,
-            beta,
-            c,
-        ),
+        Side::Left => symm_left(uplo, alpha, a, va, b, vb, beta, c, vc),
+        Side::Right => symm_right(uplo, alpha, a, va, b, vb, beta, c, vc),
     }
 }
 
@@ -556,20 +939,18 @@ fn hemm_left_row(
     requires { ⌜ FoldedReady plan (real32 .count (now a)) (real32 .count (now b)) (real32 .count (now c)) × ByRow plan × (i < plan .target .rows) ⌝ }
     ensures { λ _. ⌜ now (c .exit) ≡ updateRow real32 (plan .target) everywhere (foldedChange real32 plan (scaleBy32 beta) (real32 .mul (alpha .0)) (now (a .entry)) (now (b .entry))) i (plan .target .cols) (now (c .entry)) ⌝ }
 {
+    let turn = plan.turn;
+    let k = turn_at(turn, i, 0, plan.terms);
     let n = cols(plan.target);
-    let pairs = n / 2;
     let mut j = 0;
-    while j < pairs {
-        two_left_entries(plan, a, b, alpha, beta, c, i, 2 * j, 2 * j + 1);
+    while j < n {
+        small_entry(plan, k, a, b, alpha, beta, c, i, j);
         j += 1;
-    }
-    if 2 * j < n {
-        left_entry(plan, a, b, alpha, beta, c, i, 2 * j);
     }
 }
 
-// The whole target of hemm with A on the left.
-fn run_hemm_left(plan: Folded, a: &[f32], b: &[f32], alpha: Real32, beta: Beta32, c: &mut [f32])
+// The whole target of hemm with A on the left, term by term.
+fn hemm_left_small(plan: Folded, a: &[f32], b: &[f32], alpha: Real32, beta: Beta32, c: &mut [f32])
     requires { ⌜ FoldedReady plan (real32 .count (now a)) (real32 .count (now b)) (real32 .count (now c)) × ByRow plan ⌝ }
     ensures { λ _. ⌜ now (c .exit) ≡ update real32 (plan .target) everywhere (foldedChange real32 plan (scaleBy32 beta) (real32 .mul (alpha .0)) (now (a .entry)) (now (b .entry))) (now (c .entry)) ⌝ }
 {
@@ -578,6 +959,51 @@ fn run_hemm_left(plan: Folded, a: &[f32], b: &[f32], alpha: Real32, beta: Beta32
     while i < m {
         hemm_left_row(plan, a, b, alpha, beta, c, i);
         i += 1;
+    }
+}
+
+// hemm with A on the left.
+fn hemm_left(
+    uplo: UpLo,
+    alpha: Real32,
+    a: &[f32],
+    va: View,
+    b: &[f32],
+    vb: View,
+    beta: Beta32,
+    c: &mut [f32],
+    vc: View,
+)
+    requires { ⌜ ReadySided Side.Left true uplo va (real32 .count (now a)) vb (real32 .count (now b)) vc (real32 .count (now c)) ⌝ }
+    ensures { λ _. ⌜ now (c .exit) ≡ sidedWork real32 Side.Left true uplo va vb vc (scaleBy32 beta) (real32 .mul (alpha .0)) (now (a .entry)) (now (b .entry)) (now (c .entry)) ⌝ }
+{
+    if 8 <= cols(vc) {
+        run_folded_wide(
+            left_plan(true, uplo, va, vb, rows(vc), vc),
+            a,
+            b,
+            alpha,
+            beta,
+            c,
+        );
+    } else if 8 <= rows(vc) {
+        run_folded(
+            left_plan(true, uplo, va, vb, rows(vc), vc),
+            a,
+            b,
+            alpha,
+            beta,
+            c,
+        );
+    } else {
+        hemm_left_small(
+            left_plan(true, uplo, va, vb, rows(vc), vc),
+            a,
+            b,
+            alpha,
+            beta,
+            c,
+        );
     }
 }
 
@@ -591,20 +1017,23 @@ fn hemm_right_row(
     c: &mut [f32],
     i: usize,
 )
-    requires { ⌜ FoldedReady plan (real32 .count (now a)) (real32 .count (now b)) (real32 .count (now c)) × ByCol plan × (i < plan .target .rows) ⌝ }
+    requires { ⌜ FoldedReady plan (real32 .count (now a)) (real32 .count (now b)) (real32 .count (now c)) × (i < plan .target .rows) ⌝ }
     ensures { λ _. ⌜ now (c .exit) ≡ updateRow real32 (plan .target) everywhere (foldedChange real32 plan (scaleBy32 beta) (real32 .mul (alpha .0)) (now (a .entry)) (now (b .entry))) i (plan .target .cols) (now (c .entry)) ⌝ }
 {
+    let turn = plan.turn;
+    let m = plan.terms;
     let n = cols(plan.target);
     let mut j = 0;
     while j < n {
-        right_entry(plan, a, b, alpha, beta, c, i, j);
+        let k = turn_at(turn, i, j, m);
+        small_entry(plan, k, a, b, alpha, beta, c, i, j);
         j += 1;
     }
 }
 
-// The whole target of hemm with A on the right.
-fn run_hemm_right(plan: Folded, a: &[f32], b: &[f32], alpha: Real32, beta: Beta32, c: &mut [f32])
-    requires { ⌜ FoldedReady plan (real32 .count (now a)) (real32 .count (now b)) (real32 .count (now c)) × ByCol plan ⌝ }
+// The whole target of hemm with A on the right, term by term.
+fn hemm_right_small(plan: Folded, a: &[f32], b: &[f32], alpha: Real32, beta: Beta32, c: &mut [f32])
+    requires { ⌜ FoldedReady plan (real32 .count (now a)) (real32 .count (now b)) (real32 .count (now c)) ⌝ }
     ensures { λ _. ⌜ now (c .exit) ≡ update real32 (plan .target) everywhere (foldedChange real32 plan (scaleBy32 beta) (real32 .mul (alpha .0)) (now (a .entry)) (now (b .entry))) (now (c .entry)) ⌝ }
 {
     let m = rows(plan.target);
@@ -612,6 +1041,42 @@ fn run_hemm_right(plan: Folded, a: &[f32], b: &[f32], alpha: Real32, beta: Beta3
     while i < m {
         hemm_right_row(plan, a, b, alpha, beta, c, i);
         i += 1;
+    }
+}
+
+// hemm with A on the right.
+fn hemm_right(
+    uplo: UpLo,
+    alpha: Real32,
+    a: &[f32],
+    va: View,
+    b: &[f32],
+    vb: View,
+    beta: Beta32,
+    c: &mut [f32],
+    vc: View,
+)
+    requires { ⌜ ReadySided Side.Right true uplo va (real32 .count (now a)) vb (real32 .count (now b)) vc (real32 .count (now c)) ⌝ }
+    ensures { λ _. ⌜ now (c .exit) ≡ sidedWork real32 Side.Right true uplo va vb vc (scaleBy32 beta) (real32 .mul (alpha .0)) (now (a .entry)) (now (b .entry)) (now (c .entry)) ⌝ }
+{
+    if 8 <= cols(vc) {
+        run_folded_wide(
+            right_plan(true, uplo, va, vb, cols(vc), vc),
+            b,
+            a,
+            alpha,
+            beta,
+            c,
+        );
+    } else {
+        hemm_right_small(
+            right_plan(true, uplo, va, vb, cols(vc), vc),
+            b,
+            a,
+            alpha,
+            beta,
+            c,
+        );
     }
 }
 
@@ -632,22 +1097,8 @@ fn hemm_sided(
     ensures { λ _. ⌜ now (c .exit) ≡ sidedWork real32 side true uplo va vb vc (scaleBy32 beta) (real32 .mul (alpha .0)) (now (a .entry)) (now (b .entry)) (now (c .entry)) ⌝ }
 {
     match side {
-        Side::Left => run_hemm_left(
-            left_plan(true, uplo, va, vb, rows(vc), vc),
-            a,
-            b,
-            alpha,
-            beta,
-            c,
-        ),
-        Side::Right => run_hemm_right(
-            right_plan(true, uplo, va, vb, cols(vc), vc),
-            b,
-            a,
-            alpha,
-            beta,
-            c,
-        ),
+        Side::Left => hemm_left(uplo, alpha, a, va, b, vb, beta, c, vc),
+        Side::Right => hemm_right(uplo, alpha, a, va, b, vb, beta, c, vc),
     }
 }
 
@@ -674,6 +1125,52 @@ pub fn hemm(
     answer
 }
 
+// Row i of the named triangle of the target, eight columns at a time.
+fn triangle_wide_row(
+    uplo: UpLo,
+    plan: Plan,
+    a: &[f32],
+    b: &[f32],
+    alpha: Real32,
+    beta: Beta32,
+    c: &mut [f32],
+    i: usize,
+)
+    requires { ⌜ PlanReady plan (real32 .count (now a)) (real32 .count (now b)) (real32 .count (now c)) × (i < plan .target .rows) × (i < plan .target .cols) × (8 ≤ plan .target .cols) ⌝ }
+    ensures { λ _. ⌜ now (c .exit) ≡ updateRow real32 (plan .target) (inTriangle uplo) (planChange real32 plan (scaleBy32 beta) (real32 .mul (alpha .0)) (now (a .entry)) (now (b .entry))) i (plan .target .cols) (now (c .entry)) ⌝ }
+{
+    let n = cols(plan.target);
+    let end = end_col(uplo, i, n);
+    let mut j = first_col(uplo, i);
+    while j < end {
+        let from = block_start(j, n);
+        let stop = block_end(from, end);
+        block(plan, a, b, alpha, beta, c, i, from, j, stop);
+        j = stop;
+    }
+}
+
+// The whole of that triangle, eight columns at a time.
+fn run_triangle_wide(
+    uplo: UpLo,
+    plan: Plan,
+    a: &[f32],
+    b: &[f32],
+    alpha: Real32,
+    beta: Beta32,
+    c: &mut [f32],
+)
+    requires { ⌜ PlanReady plan (real32 .count (now a)) (real32 .count (now b)) (real32 .count (now c)) × (plan .target .rows ≡ plan .target .cols) × (8 ≤ plan .target .cols) ⌝ }
+    ensures { λ _. ⌜ now (c .exit) ≡ update real32 (plan .target) (inTriangle uplo) (planChange real32 plan (scaleBy32 beta) (real32 .mul (alpha .0)) (now (a .entry)) (now (b .entry))) (now (c .entry)) ⌝ }
+{
+    let m = rows(plan.target);
+    let mut i = 0;
+    while i < m {
+        triangle_wide_row(uplo, plan, a, b, alpha, beta, c, i);
+        i += 1;
+    }
+}
+
 // Row i of the named triangle of syrk's target.
 fn syrk_row(
     uplo: UpLo,
@@ -696,8 +1193,8 @@ fn syrk_row(
     }
 }
 
-// The whole of that triangle.
-fn run_syrk(
+// The whole of that triangle, element by element.
+fn syrk_plain(
     uplo: UpLo,
     plan: Plan,
     a: &[f32],
@@ -714,6 +1211,26 @@ fn run_syrk(
     while i < m {
         syrk_row(uplo, plan, a, b, alpha, beta, c, i);
         i += 1;
+    }
+}
+
+// The whole of that triangle.
+fn run_syrk(
+    uplo: UpLo,
+    plan: Plan,
+    a: &[f32],
+    b: &[f32],
+    alpha: Real32,
+    beta: Beta32,
+    c: &mut [f32],
+)
+    requires { ⌜ PlanReady plan (real32 .count (now a)) (real32 .count (now b)) (real32 .count (now c)) × (plan .target .rows ≡ plan .target .cols) ⌝ }
+    ensures { λ _. ⌜ now (c .exit) ≡ update real32 (plan .target) (inTriangle uplo) (planChange real32 plan (scaleBy32 beta) (real32 .mul (alpha .0)) (now (a .entry)) (now (b .entry))) (now (c .entry)) ⌝ }
+{
+    if 8 <= cols(plan.target) {
+        run_triangle_wide(uplo, plan, a, b, alpha, beta, c);
+    } else {
+        syrk_plain(uplo, plan, a, b, alpha, beta, c);
     }
 }
 
@@ -768,8 +1285,8 @@ fn herk_row(
     }
 }
 
-// The whole of that triangle.
-fn run_herk(
+// The whole of that triangle, element by element.
+fn herk_plain(
     uplo: UpLo,
     plan: Plan,
     a: &[f32],
@@ -786,6 +1303,26 @@ fn run_herk(
     while i < m {
         herk_row(uplo, plan, a, b, alpha, beta, c, i);
         i += 1;
+    }
+}
+
+// The whole of that triangle.
+fn run_herk(
+    uplo: UpLo,
+    plan: Plan,
+    a: &[f32],
+    b: &[f32],
+    alpha: Real32,
+    beta: Beta32,
+    c: &mut [f32],
+)
+    requires { ⌜ PlanReady plan (real32 .count (now a)) (real32 .count (now b)) (real32 .count (now c)) × (plan .target .rows ≡ plan .target .cols) ⌝ }
+    ensures { λ _. ⌜ now (c .exit) ≡ update real32 (plan .target) (inTriangle uplo) (planChange real32 plan (scaleBy32 beta) (real32 .mul (alpha .0)) (now (a .entry)) (now (b .entry))) (now (c .entry)) ⌝ }
+{
+    if 8 <= cols(plan.target) {
+        run_triangle_wide(uplo, plan, a, b, alpha, beta, c);
+    } else {
+        herk_plain(uplo, plan, a, b, alpha, beta, c);
     }
 }
 

@@ -7,6 +7,7 @@ ghost use Prim.Native.Nat.{_<_, _≤_, _+_, _-_};
 ghost use lib.IntN.{pos};
 ghost use Rattle.number.specs.Kind.{real64};
 ghost use Rattle.number.specs.Scaling.{scaleBy64};
+ghost use Rattle.view.specs.Refusals.{limit};
 ghost use Rattle.view.specs.Steps.{Accepted};
 ghost use Rattle.view.specs.Triangle.{inTriangle};
 ghost use Rattle.slab.specs.Eight.{Eight};
@@ -139,7 +140,8 @@ fn add_beside(
     let mut totals = sums;
     let mut p = from;
     while p < end {
-        totals = add_beside64(elem64(a, f.left, i, p), b, place(f.right, p, j), totals);
+        let next = add_beside64(elem64(a, f.left, i, p), b, place(f.right, p, j), totals);
+        totals = next;
         p += 1;
     }
     totals
@@ -162,7 +164,8 @@ fn add_apart(
     let mut totals = sums;
     let mut p = from;
     while p < end {
-        totals = add_eight64(elem64(a, f.left, i, p), b, f.right, p, j, totals);
+        let next = add_eight64(elem64(a, f.left, i, p), b, f.right, p, j, totals);
+        totals = next;
         p += 1;
     }
     totals
@@ -232,15 +235,7 @@ fn block(
 }
 
 // Row i of the target, eight columns at a time.
-fn wide_row(
-    plan: Plan,
-    a: &[f64],
-    b: &[f64],
-    alpha: Real64,
-    beta: Beta64,
-    c: &mut [f64],
-    i: usize,
-)
+fn wide_row(plan: Plan, a: &[f64], b: &[f64], alpha: Real64, beta: Beta64, c: &mut [f64], i: usize)
     requires { ⌜ PlanReady plan (real64 .count (now a)) (real64 .count (now b)) (real64 .count (now c)) × (i < plan .target .rows) × (8 ≤ plan .target .cols) ⌝ }
     ensures { λ _. ⌜ now (c .exit) ≡ updateRow real64 (plan .target) everywhere (planChange real64 plan (scaleBy64 beta) (real64 .mul (alpha .0)) (now (a .entry)) (now (b .entry))) i (plan .target .cols) (now (c .entry)) ⌝ }
 {
@@ -314,7 +309,8 @@ fn column_sums(plan: Plan, a: &[f64], b: &[f64], i: usize) -> [f64; 8]
     let mut sums = [0.0; 8];
     let mut p = 0;
     while p < n {
-        sums = add_eight64(elem64(b, plan.factors.right, p, 0), a, v, p, i, sums);
+        let next = add_eight64(elem64(b, plan.factors.right, p, 0), a, v, p, i, sums);
+        sums = next;
         p += 1;
     }
     sums
@@ -627,7 +623,7 @@ fn bend(
 
 // The sums of elements (i, j) to (i, j + 7) of a folded plan.
 fn folded_eight(plan: Folded, a: &[f64], b: &[f64], i: usize, j: usize) -> [f64; 8]
-    requires { ⌜ FoldedReads plan (real64 .count (now a)) (real64 .count (now b)) × (i < plan .target .rows) × (j + 8 ≤ plan .target .cols) ⌝ }
+    requires { ⌜ FoldedReads plan (real64 .count (now a)) (real64 .count (now b)) × (i < plan .target .rows) × (j + 8 ≤ plan .target .cols) × (plan .target .cols ≤ limit) ⌝ }
     ensures { λ r. ⌜ Eight real64 r (λ t. foldedProduct real64 plan (now (a .entry)) (now (b .entry)) i (j + t)) ⌝ }
 {
     let turn = plan.turn;
@@ -695,15 +691,7 @@ fn run_folded_wide(plan: Folded, a: &[f64], b: &[f64], alpha: Real64, beta: Beta
 }
 
 // Term p of element (i, j), of which the terms from k on are after the turn.
-fn folded_term(
-    plan: Folded,
-    k: usize,
-    a: &[f64],
-    b: &[f64],
-    i: usize,
-    j: usize,
-    p: usize,
-) -> Real64
+fn folded_term(plan: Folded, k: usize, a: &[f64], b: &[f64], i: usize, j: usize, p: usize) -> Real64
     requires { ⌜ FoldedReads plan (real64 .count (now a)) (real64 .count (now b)) × (i < plan .target .rows) × (j < plan .target .cols) × (p < plan .terms) × (k ≡ termsBefore (plan .turn) i j) ⌝ }
     ensures { λ r. ⌜ r .0 ≡ foldedTerm real64 plan (now (a .entry)) (now (b .entry)) i j p ⌝ }
 {
@@ -730,13 +718,13 @@ fn small_entry(
     ensures { λ _. ⌜ now (c .exit) ≡ replaced real64 (plan .target) i j (foldedChange real64 plan (scaleBy64 beta) (real64 .mul (alpha .0)) (now (a .entry)) (now (b .entry)) i j) (now (c .entry)) ⌝ }
 {
     let n = plan.terms;
-    let mut sum = Real64::ZERO;
+    let mut total = Real64::ZERO;
     let mut p = 0;
     while p < n {
-        sum = sum.add(folded_term(plan, k, a, b, i, j, p));
+        total = total.add(folded_term(plan, k, a, b, i, j, p));
         p += 1;
     }
-    settle(plan.target, alpha, beta, c, i, j, sum);
+    settle(plan.target, alpha, beta, c, i, j, total);
 }
 
 // Row i of symm with A on the left.

@@ -62,6 +62,12 @@ module _ (K : Kind) (v : View) (u : Change K) (i : ℕ) where
   pub span-next : (a j : ℕ) (s₀ s t : List (K .Cell)) → a ≤ j → s ≡ span K v u i a j s₀ → t ≡ K .put s (index v i j) (u i j (elem K s v i j)) → t ≡ span K v u i a (j + 1) s₀
   span-next a j s₀ s t h p q = put-next K v (λ r j. leb a j) u i j s₀ s t (le-leb a j h) p q
 
+  -- a loop that is left at j has gone to n
+  pub span-end : (a j n : ℕ) (s₀ s : List (K .Cell)) → j ≤ n → n ≤ j → s ≡ span K v u i a j s₀ → s ≡ span K v u i a n s₀
+  span-end a j n s₀ s h g p =
+      let q : j ≡ n = omega arith in
+      subst (λ (k : ℕ). s ≡ span K v u i a k s₀) q p
+
   -- after the columns before a, those from a on
   pub span-after : (mask : Mask) (a n : ℕ) (s₀ s t : List (K .Cell)) → a ≤ n → ((j : ℕ) → a ≤ j → j < n → mask i j ≡ true)
       → s ≡ updateRow K v mask u i a s₀ → t ≡ span K v u i a n s → t ≡ updateRow K v mask u i n s₀
@@ -108,6 +114,11 @@ module _ (K : Kind) (v : View) (u : Change K) (one : v .cols ≡ 1) where
 
   pub rows-span-next : (a i : ℕ) (s₀ s t : List (K .Cell)) → a ≤ i → s ≡ spanRows K v u a i s₀ → t ≡ replaced K v i 0 (u i 0) s → t ≡ spanRows K v u a (i + 1) s₀
   rows-span-next a i s₀ s t h p q = rows-next K v (λ r j. leb a r) u s₀ s i t p (row-one (λ r j. leb a r) i s t (le-leb a i h) q)
+
+  pub rows-span-end : (a j n : ℕ) (s₀ s : List (K .Cell)) → j ≤ n → n ≤ j → s ≡ spanRows K v u a j s₀ → s ≡ spanRows K v u a n s₀
+  rows-span-end a j n s₀ s h g p =
+      let q : j ≡ n = omega arith in
+      subst (λ (k : ℕ). s ≡ spanRows K v u a k s₀) q p
 
   -- after the rows before a, those from a on, where u′ says of each element what u says
   pub rows-span-after : (u′ : Change K) (a n : ℕ) (s₀ s t : List (K .Cell)) → a ≤ n → ((i : ℕ) → a ≤ i → i < n → (x : K .Elem) → u i 0 x ≡ u′ i 0 x)

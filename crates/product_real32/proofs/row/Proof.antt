@@ -1,22 +1,21 @@
-use Prim.Native.Nat.{_≤_, _-_, _*_, _/_}
+use Prim.Native.Nat.{_≤_, _-_}
 use mathlib.Core.Path.{_≡_, refl, _∙_}
 use native.Mathlib.Omega.{arith}
 use lib.ListN.{length}
 use Rattle.number.specs.Kind.{real32}
 use Rattle.number.specs.Scaling.{scaleBy32}
 use Rattle.slab.specs.Update.{everywhere, updateRow}
-use Rattle.slab.proofs.LoopLaws.{row-last}
+use Rattle.slab.proofs.LoopLaws.{row-last, put-next}
 use Rattle.product_plan.specs.Plan.{planChange}
-use Rattle.product_plan.proofs.Rows.{row-pair, row-odd}
 use Rattle.product_plan.proofs.Ready.{ready-kept}
 use Rattle.product_real32.proofs.row.Statement.{statement}
 use Rattle.product_real32.proofs.row.Tie as tie
 
 abbrev Inv-loop : tie.InvT-loop
-Inv-loop plan a b alpha beta c₀ i n pairs j₀ c j = (j ≤ pairs) × (length c ≡ length c₀) × (c ≡ updateRow real32 (plan .target) everywhere (planChange real32 plan (scaleBy32 beta) (real32 .mul (alpha .0)) a b) i (2 * j) c₀)
+Inv-loop plan a b alpha beta c₀ i n j₀ c j = (j ≤ n) × (length c ≡ length c₀) × (c ≡ updateRow real32 (plan .target) everywhere (planChange real32 plan (scaleBy32 beta) (real32 .mul (alpha .0)) a b) i j c₀)
 
 abbrev μ-loop : tie.MeasureT-loop
-μ-loop plan a b alpha beta c₀ i n pairs j₀ c j = pairs - j
+μ-loop plan a b alpha beta c₀ i n j₀ c j = n - j
 
 cols-requires : tie.Need-cols-requires Inv-loop μ-loop
 cols-requires c κs = tt
@@ -25,20 +24,8 @@ loop-holds : tie.Need-loop-holds Inv-loop μ-loop
 unfolding updateRow
 loop-holds c = (omega arith, refl, refl)
 
-mul-two-entries : tie.Need-mul-two-entries Inv-loop μ-loop
-mul-two-entries c = omega arith
-
-mul-two-entries-2 : tie.Need-mul-two-entries-2 Inv-loop μ-loop
-mul-two-entries-2 c = omega arith
-
-add-two-entries : tie.Need-add-two-entries Inv-loop μ-loop
-add-two-entries c = omega arith
-
-two-entries-requires : tie.Need-two-entries-requires Inv-loop μ-loop
-two-entries-requires c κs =
-    let r = c .before .before .before .before .before .before .before .pre in
-    let e = c .before .before .before .cols .ensures in
-    (ready-kept _ _ _ _ _ (c .before .before .loop .inv .1) (r .0), r .1, omega (arith, e), r .1, omega (arith, e))
+entry-requires : tie.Need-entry-requires Inv-loop μ-loop
+entry-requires c κs = (ready-kept _ _ _ _ _ (c .before .before .loop .inv .1) (c .before .before .before .before .before .before .before .pre .0), c .before .before .before .before .before .before .before .pre .1, omega (arith, c .before .before .before .cols .ensures))
 
 add-j : tie.Need-add-j Inv-loop μ-loop
 add-j c = omega arith
@@ -47,36 +34,13 @@ loop-less : tie.Need-loop-less Inv-loop μ-loop
 loop-less c = omega arith
 
 loop-again : tie.Need-loop-again Inv-loop μ-loop
-loop-again c = (omega arith, c .before .before .two-entries .kept .1 .1 .1 .1 .1 .0 ∙ c .before .before .before .before .before .loop .inv .1, row-pair real32 _ _ _ _ _ _ _ (c .before .before .before .before .before .loop .inv .2) (c .before .before .two-entries .ensures))
-
-mul-if1 : tie.Need-mul-if1 Inv-loop μ-loop
-mul-if1 c = omega arith
-
-mul-entry : tie.Need-mul-entry Inv-loop μ-loop
-mul-entry c = omega arith
-
-entry-requires : tie.Need-entry-requires Inv-loop μ-loop
-entry-requires c κs =
-    let r = c .before .before .before .before .before .before .before .before .pre in
-    (ready-kept _ _ _ _ _ (c .before .before .before .loop .inv .1) (r .0), r .1, omega (arith, c .before .before .before .before .cols .ensures))
+loop-again c = (omega arith, c .before .before .entry .kept .1 .1 .1 .1 .1 .0 ∙ c .before .before .before .before .before .loop .inv .1, put-next real32 _ _ _ _ _ _ _ _ refl (c .before .before .before .before .before .loop .inv .2) (c .before .before .entry .ensures))
 
 same-length : tie.Need-same-length Inv-loop μ-loop
-same-length c = c .before .before .entry .kept .1 .1 .1 .1 .1 .0 ∙ c .before .before .before .before .before .before .loop .inv .1
+same-length c = c .before .loop .inv .1
 
 returns : tie.Need-returns Inv-loop μ-loop
-returns c =
-    let l = c .before .before .before .before .before .before .loop in
-    let n = c .before .before .before .before .before .before .before .cols in
-    row-odd real32 _ _ _ (l .j) _ _ _ (omega (arith, n .ensures)) (l .inv .2) (c .before .before .entry .ensures)
-
-same-length-2 : tie.Need-same-length-2 Inv-loop μ-loop
-same-length-2 c = c .before .before .loop .inv .1
-
-returns-2 : tie.Need-returns-2 Inv-loop μ-loop
-returns-2 c =
-    let l = c .before .before .loop in
-    let n = c .before .before .before .cols in
-    row-last _ _ _ _ _ _ _ (2 * l .j) (n .result) (n .ensures) (omega arith) (omega arith) (l .inv .2)
+returns c = row-last _ _ _ _ _ _ _ _ _ (c .before .before .cols .ensures) (c .before .loop .inv .0) (omega arith) (c .before .loop .inv .2)
 
 pub row-spec : {M : Type 1} → statement M
 row-spec =
@@ -86,17 +50,9 @@ row-spec =
     μ-loop
     cols-requires
     loop-holds
-    mul-two-entries
-    mul-two-entries-2
-    add-two-entries
-    two-entries-requires
+    entry-requires
     add-j
     loop-less
     loop-again
-    mul-if1
-    mul-entry
-    entry-requires
     same-length
-    returns
-    same-length-2
-    returns-2)
+    returns)

@@ -23,7 +23,7 @@ judge-requires : tie.Need-judge-requires
 judge-requires c κs = tt
 
 run-left-column-requires : tie.Need-run-left-column-requires
-run-left-column-requires c κs = hemv-runs (c .before .before .before .before .before .before .before .before .before .before .args .uplo) _ _ _ _ _ _ _ _ (c .before .before .before .before .before .check-hemv .ensures) (c .before .before .before .before .passed .ensures) (c .before .before .before .if1 .taken) _ (c .before .before .hemv-plan .ensures)
+run-left-column-requires c κs = let h = hemv-runs (c .before .before .before .before .before .before .before .before .before .before .args .uplo) _ _ _ _ _ _ _ _ (c .before .before .before .before .before .check-hemv .ensures) (c .before .before .before .before .passed .ensures) (c .before .before .before .if1 .taken) _ (c .before .before .hemv-plan .ensures) in (h .0, h .2)
 
 same-length : tie.Need-same-length
 same-length c = search needs

@@ -5,9 +5,8 @@ use lib.ListN.{length}
 use Rattle.number.specs.Kind.{real64}
 use Rattle.number.specs.Scaling.{scaleBy64}
 use Rattle.slab.specs.Update.{everywhere, updateRows}
-use Rattle.slab.proofs.LoopLaws.{rows-last}
 use Rattle.product_plan.specs.Plan.{foldedChange}
-use Rattle.product_plan.proofs.Rows.{column-next}
+use Rattle.slab.proofs.LoopLaws.{rows-last, column-next}
 use Rattle.product_plan.proofs.Ready.{folded-kept}
 use Rattle.product_real64.proofs.run_left_column.Statement.{statement}
 use Rattle.product_real64.proofs.run_left_column.Tie as tie
@@ -25,8 +24,8 @@ loop-holds : tie.Need-loop-holds Inv-loop μ-loop
 unfolding updateRows
 loop-holds c = (omega arith, refl, refl)
 
-left-entry-requires : tie.Need-left-entry-requires Inv-loop μ-loop
-left-entry-requires c κs = (folded-kept _ _ _ _ _ (c .before .before .loop .inv .1) (c .before .before .before .before .before .before .before .pre .0), c .before .before .before .before .before .before .before .pre .1, omega (arith, c .before .before .before .rows .ensures), omega (arith, c .before .before .before .before .before .before .before .pre .2))
+folded-entry-requires : tie.Need-folded-entry-requires Inv-loop μ-loop
+folded-entry-requires c κs = (folded-kept _ _ _ _ _ (c .before .before .loop .inv .1) (c .before .before .before .before .before .before .before .pre .0), omega (arith, c .before .before .before .rows .ensures), omega (arith, c .before .before .before .before .before .before .before .pre .1))
 
 add-i : tie.Need-add-i Inv-loop μ-loop
 add-i c = omega arith
@@ -35,7 +34,7 @@ loop-less : tie.Need-loop-less Inv-loop μ-loop
 loop-less c = omega arith
 
 loop-again : tie.Need-loop-again Inv-loop μ-loop
-loop-again c = (omega arith, c .before .before .left-entry .kept .1 .1 .1 .1 .1 .0 ∙ c .before .before .before .before .before .loop .inv .1, column-next real64 _ _ _ _ _ _ (c .before .before .before .before .before .before .before .before .before .before .pre .2) (c .before .before .before .before .before .loop .inv .2) (c .before .before .left-entry .ensures))
+loop-again c = (omega arith, c .before .before .folded-entry .kept .1 .1 .1 .1 .1 .0 ∙ c .before .before .before .before .before .loop .inv .1, column-next real64 _ _ (c .before .before .before .before .before .before .before .before .before .before .pre .1) _ _ _ _ (c .before .before .before .before .before .loop .inv .2) (c .before .before .folded-entry .ensures))
 
 same-length : tie.Need-same-length Inv-loop μ-loop
 same-length c = c .before .loop .inv .1
@@ -51,7 +50,7 @@ run-left-column-spec =
     μ-loop
     rows-requires
     loop-holds
-    left-entry-requires
+    folded-entry-requires
     add-i
     loop-less
     loop-again

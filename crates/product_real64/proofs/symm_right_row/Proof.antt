@@ -1,4 +1,5 @@
-use Prim.Native.Nat.{_≤_, _-_}
+-- Element after element is the row so far.
+use Prim.Native.Nat.{_≤_, _+_, _-_}
 use mathlib.Core.Path.{_≡_, refl, _∙_}
 use native.Mathlib.Omega.{arith}
 use lib.ListN.{length}
@@ -12,35 +13,19 @@ use Rattle.product_real64.proofs.symm_right_row.Statement.{statement}
 use Rattle.product_real64.proofs.symm_right_row.Tie as tie
 
 abbrev Inv-loop : tie.InvT-loop
-Inv-loop plan a b alpha beta c₀ i n j₀ c j = (j ≤ n) × (length c ≡ length c₀) × (c ≡ updateRow real64 (plan .target) everywhere (foldedChange real64 plan (scaleBy64 beta) (real64 .mul (alpha .0)) a b) i j c₀)
+Inv-loop plan a b alpha beta c₀ i turn m n j₀ c j = (j ≤ n) × (length c ≡ length c₀) × (c ≡ updateRow real64 (plan .target) everywhere (foldedChange real64 plan (scaleBy64 beta) (real64 .mul (alpha .0)) a b) i j c₀)
 
 abbrev μ-loop : tie.MeasureT-loop
-μ-loop plan a b alpha beta c₀ i n j₀ c j = n - j
-
-cols-requires : tie.Need-cols-requires Inv-loop μ-loop
-cols-requires c κs = tt
+μ-loop plan a b alpha beta c₀ i turn m n j₀ c j = n - j
 
 loop-holds : tie.Need-loop-holds Inv-loop μ-loop
 unfolding updateRow
 loop-holds c = (omega arith, refl, refl)
 
-right-entry-requires : tie.Need-right-entry-requires Inv-loop μ-loop
-right-entry-requires c κs = (folded-kept _ _ _ _ _ (c .before .before .loop .inv .1) (c .before .before .before .before .before .before .before .pre .0), c .before .before .before .before .before .before .before .pre .1, c .before .before .before .before .before .before .before .pre .2, omega (arith, c .before .before .before .cols .ensures))
-
-add-j : tie.Need-add-j Inv-loop μ-loop
-add-j c = omega arith
-
-loop-less : tie.Need-loop-less Inv-loop μ-loop
-loop-less c = omega arith
-
 loop-again : tie.Need-loop-again Inv-loop μ-loop
-loop-again c = (omega arith, c .before .before .right-entry .kept .1 .1 .1 .1 .1 .0 ∙ c .before .before .before .before .before .loop .inv .1, put-next real64 _ _ _ _ _ _ _ _ refl (c .before .before .before .before .before .loop .inv .2) (c .before .before .right-entry .ensures))
-
-same-length : tie.Need-same-length Inv-loop μ-loop
-same-length c = c .before .loop .inv .1
-
-returns : tie.Need-returns Inv-loop μ-loop
-returns c = row-last _ _ _ _ _ _ _ _ _ (c .before .before .cols .ensures) (c .before .loop .inv .0) (omega arith) (c .before .loop .inv .2)
+loop-again c =
+    let l = c .before .before .before .before .before .before .loop in
+    (omega arith, c .before .before .small-entry .kept .1 .1 .1 .1 .1 .1 .0 ∙ l .inv .1, put-next real64 _ _ _ _ _ _ _ _ refl (l .inv .2) (c .before .before .small-entry .ensures))
 
 pub symm-right-row-spec : {M : Type 1} → statement M
 symm-right-row-spec =
@@ -48,11 +33,12 @@ symm-right-row-spec =
     (tie.spec
     Inv-loop
     μ-loop
-    cols-requires
+    (λ c κs. tt)
     loop-holds
-    right-entry-requires
-    add-j
-    loop-less
+    (λ c κs. let r = c .before .before .before .before .before .before .pre in r .0 .reads .turns _ _ (r .1) (omega (arith, c .before .before .cols .ensures)))
+    (λ c κs. let r = c .before .before .before .before .before .before .before .before .pre in (folded-kept _ _ _ _ _ (c .before .before .before .loop .inv .1) (r .0), r .1, omega (arith, c .before .before .before .before .cols .ensures), c .before .turn-at .ensures))
+    (λ c. omega arith)
+    (λ c. omega arith)
     loop-again
-    same-length
-    returns)
+    (λ c. c .before .loop .inv .1)
+    (λ c. row-last _ _ _ _ _ _ _ _ _ (c .before .before .cols .ensures) (c .before .loop .inv .0) (omega arith) (c .before .loop .inv .2)))
