@@ -3,7 +3,7 @@ use Rattle.product_complex.proofs.folded_entry.Statement.{statement}
 use Rattle.product_complex.proofs.folded_entry.Tie as tie
 
 turn-at-requires : tie.Need-turn-at-requires
-turn-at-requires c κs = c .before .before .before .pre .0 .turns _ _ (c .before .before .before .pre .1) (c .before .before .before .pre .2)
+turn-at-requires c κs = c .before .before .before .pre .0 .reads .turns _ _ (c .before .before .before .pre .1) (c .before .before .before .pre .2)
 
 turned-entry-requires : tie.Need-turned-entry-requires
 turned-entry-requires c κs = (c .before .before .before .before .before .pre .0, c .before .before .before .before .before .pre .1, c .before .before .before .before .before .pre .2, c .before .turn-at .ensures)

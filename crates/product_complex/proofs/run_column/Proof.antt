@@ -5,9 +5,8 @@ use lib.ListN.{length}
 use Rattle.number.specs.Kind.{complex}
 use Rattle.number.specs.Scaling.{scaleByComplex, times}
 use Rattle.slab.specs.Update.{everywhere, updateRows}
-use Rattle.slab.proofs.LoopLaws.{rows-last}
+use Rattle.slab.proofs.LoopLaws.{rows-last, column-next}
 use Rattle.product_plan.specs.Plan.{planChange}
-use Rattle.product_plan.proofs.Rows.{column-next}
 use Rattle.product_plan.proofs.Ready.{ready-kept}
 use Rattle.product_complex.proofs.run_column.Statement.{statement}
 use Rattle.product_complex.proofs.run_column.Tie as tie
@@ -35,7 +34,7 @@ loop-less : tie.Need-loop-less Inv-loop μ-loop
 loop-less c = omega arith
 
 loop-again : tie.Need-loop-again Inv-loop μ-loop
-loop-again c = (omega arith, c .before .before .column-entry .kept .1 .1 .1 .1 .1 .0 ∙ c .before .before .before .before .before .loop .inv .1, column-next complex _ _ _ _ _ _ (c .before .before .before .before .before .before .before .before .before .before .pre .1) (c .before .before .before .before .before .loop .inv .2) (c .before .before .column-entry .ensures))
+loop-again c = (omega arith, c .before .before .column-entry .kept .1 .1 .1 .1 .1 .0 ∙ c .before .before .before .before .before .loop .inv .1, column-next complex _ _ (c .before .before .before .before .before .before .before .before .before .before .pre .1) _ _ _ _ (c .before .before .before .before .before .loop .inv .2) (c .before .before .column-entry .ensures))
 
 same-length : tie.Need-same-length Inv-loop μ-loop
 same-length c = c .before .loop .inv .1

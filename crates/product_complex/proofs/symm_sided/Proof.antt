@@ -18,7 +18,7 @@ right-plan-requires : tie.Need-right-plan-requires
 right-plan-requires c κs = tt
 
 run-symm-right-requires : tie.Need-run-symm-right-requires
-run-symm-right-requires c κs = rw (c .before .right-plan .ensures, c .before .before .cols .ensures) ((rw (c .before .before .before .enum-told2 .given .1) at (c .before .before .before .before .before .before .before .before .pre)) .0)
+run-symm-right-requires c κs = rw (c .before .right-plan .ensures, c .before .before .cols .ensures) (rw (c .before .before .before .enum-told2 .given .1) at (c .before .before .before .before .before .before .before .before .pre))
 
 same-length : tie.Need-same-length
 same-length c = search needs

@@ -5,7 +5,8 @@ use lib.ListN.{length}
 use Rattle.number.specs.Kind.{complex}
 use Rattle.number.specs.Scaling.{scaleByComplex, times}
 use Rattle.product_plan.specs.Plan.{planChange}
-use Rattle.slab.proofs.LoopLaws.{span, span-start, span-next}
+use Rattle.slab.specs.Update.{span}
+use Rattle.slab.proofs.LoopLaws.{span-start, span-next}
 use Rattle.product_plan.proofs.Rows.{span-last, row-columns}
 use Rattle.product_plan.proofs.Ready.{ready-kept}
 use Rattle.product_complex.proofs.syrk_row.Statement.{statement}
