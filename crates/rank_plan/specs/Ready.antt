@@ -1,10 +1,7 @@
 -- What the code asks of its caller: that it reads and writes inside the slabs, of la, lb and lc elements.
-use Prim.Native.Nat.{ℕ, _+_, _<_}
+use Prim.Native.Nat.{ℕ, _<_}
 use mathlib.Core.Path.{_≡_}
 use Rattle.view.specs.declared.View.{View}
-use Rattle.view.specs.declared.UpLo.{UpLo}
-use Rattle.view.specs.Place.{index}
-use Rattle.view.specs.Triangle.{firstCol, endCol}
 use Rattle.view.specs.Steps.{Accepted}
 use Rattle.rank_plan.specs.declared.plan.Plan.{Plan}
 
@@ -27,15 +24,6 @@ pub record Two (vx : View) (lx : ℕ) (vy : View) (ly : ℕ) (va : View) (la : �
   pub x : Sized vx lx (va .rows) 1
   pub y : Sized vy ly (va .rows) 1
   pub target : SquareWithin va la
-
--- where row i of the named triangle is gone over: xi is at place own; of its n columns the first is `begin`, that element is at place t and its factor in x at place u
-pub record RowAt (uplo : UpLo) (vx va : View) (i own u t begin n : ℕ) : Type 0 where
-  pub row : i < va .rows
-  pub starts : begin ≡ firstCol uplo i
-  pub ends : begin + n ≡ endCol uplo i (va .cols)
-  pub weight : own ≡ index vx i 0
-  pub factor : u ≡ index vx begin 0
-  pub target : t ≡ index va i begin
 
 -- syr2k and her2k: the factors have the target's rows and the terms, or the terms and the target's columns
 pub record Factors (plan : Plan) (la lb : ℕ) : Type 0 where
