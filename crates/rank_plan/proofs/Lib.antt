@@ -3,5 +3,6 @@
 pub mod Inside
 pub mod Rows
 pub mod Laws
+pub mod Eights
 pub mod Ready
 pub mod Kernels

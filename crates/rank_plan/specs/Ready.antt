@@ -1,5 +1,5 @@
 -- What the code asks of its caller: that it reads and writes inside the slabs, of la, lb and lc elements.
-use Prim.Native.Nat.{ℕ, _<_}
+use Prim.Native.Nat.{ℕ, _+_, _≤_, _<_}
 use mathlib.Core.Path.{_≡_}
 use Rattle.view.specs.declared.View.{View}
 use Rattle.view.specs.Steps.{Accepted}
@@ -41,3 +41,12 @@ pub record Entry (plan : Plan) (la lb i j : ℕ) : Type 0 where
   pub factors : Factors plan la lb
   pub row : i < plan .target .rows
   pub col : j < plan .target .cols
+
+-- columns `first` to before `end` of row i of the target, among the eight columns from `from` on
+pub record Block (plan : Plan) (la lb lc i from first end : ℕ) : Type 0 where
+  pub paired : Paired plan la lb lc
+  pub row : i < plan .target .rows
+  pub eight : from + 8 ≤ plan .target .cols
+  pub begins : from ≤ first
+  pub ordered : first ≤ end
+  pub ends : end ≤ from + 8

@@ -2,20 +2,21 @@
 // Translated from control-rs; NOTICE names the source.
 
 ghost use mathlib.Core.Path.{_≡_};
-ghost use Prim.Native.Nat.{_<_};
+ghost use Prim.Native.Nat.{_<_, _≤_, _+_};
 ghost use Rattle.number.specs.Kind.{real32};
 ghost use Rattle.number.specs.Scaling.{scaleBy32};
 ghost use Rattle.view.specs.Triangle.{inTriangle};
 ghost use Rattle.slab.specs.Elem.{elem, lent, Within};
 ghost use Rattle.slab.specs.Update.{replaced, updateRow, update};
 ghost use Rattle.slab.specs.Run.{elemConj};
+ghost use Rattle.slab.specs.Eight.{Eight};
 ghost use Rattle.blas.specs.Outcome.{Gives};
 ghost use Rattle.blas.specs.Her;
 ghost use Rattle.blas.specs.Her2;
 ghost use Rattle.blas.specs.Her2k;
 ghost use Rattle.blas.specs.Syr2k;
-ghost use Rattle.rank_plan.specs.Change.{addOne, addTwo, pairAt, pairsAt, weighedAt, weighedsAt, syr2kChange, her2kChange};
-ghost use Rattle.rank_plan.specs.Ready.{One, Two, Entry, Paired};
+ghost use Rattle.rank_plan.specs.Change.{addOne, addTwo, pairAt, pairsAt, weighedAt, weighedsAt, syr2kChange, her2kChange, updateColumns};
+ghost use Rattle.rank_plan.specs.Ready.{One, Two, Entry, Paired, Block};
 use judge::check_her;
 use judge::check_her2;
 use judge::check_her2k;
@@ -28,6 +29,9 @@ use number::Real32;
 use rank_plan::Plan;
 use rank_plan::her2k_plan;
 use rank_plan::syr2k_plan;
+use slab::add_eight32;
+use slab::block_end;
+use slab::block_start;
 use slab::elem32;
 use slab::get32;
 use slab::put32;
@@ -226,6 +230,16 @@ fn weighed_sum(alpha: Real32, plan: Plan, a: &[f32], b: &[f32], i: usize, j: usi
     sum
 }
 
+// Element (i, j) of the target becomes what beta makes of it, plus a number.
+fn settle(beta: Beta32, more: Real32, c: &mut [f32], v: View, i: usize, j: usize)
+    requires { ⌜ Within v (real32 .count (now c)) i j ⌝ }
+    ensures { λ _. ⌜ now (c .exit) ≡ replaced real32 v i j (λ old. real32 .add (scaleBy32 beta old) (more .0)) (now (c .entry)) ⌝ }
+{
+    let k = place(v, i, j);
+    let old = beta.scale(get32(c, k));
+    put32(c, k, old.add(more));
+}
+
 // Element (i, j) of syr2k's target.
 fn syr2k_entry(
     alpha: Real32,
@@ -240,10 +254,8 @@ fn syr2k_entry(
     requires { ⌜ Entry plan (real32 .count (now a)) (real32 .count (now b)) i j × Within (plan .target) (real32 .count (now c)) i j ⌝ }
     ensures { λ _. ⌜ now (c .exit) ≡ replaced real32 (plan .target) i j (syr2kChange real32 plan (now (a .entry)) (now (b .entry)) (alpha .0) (scaleBy32 beta) i j) (now (c .entry)) ⌝ }
 {
-    let k = place(plan.target, i, j);
-    let old = beta.scale(get32(c, k));
     let sum = pair_sum(plan, a, b, i, j);
-    put32(c, k, old.add(alpha.mul(sum)));
+    settle(beta, alpha.mul(sum), c, plan.target, i, j);
 }
 
 // Row i of syr2k's target.
@@ -287,10 +299,8 @@ fn her2k_entry(
     requires { ⌜ Entry plan (real32 .count (now a)) (real32 .count (now b)) i j × Within (plan .target) (real32 .count (now c)) i j ⌝ }
     ensures { λ _. ⌜ now (c .exit) ≡ replaced real32 (plan .target) i j (her2kChange real32 plan (now (a .entry)) (now (b .entry)) (alpha .0) (scaleBy32 beta) i j) (now (c .entry)) ⌝ }
 {
-    let k = place(plan.target, i, j);
-    let old = beta.scale(get32(c, k));
     let sum = weighed_sum(alpha, plan, a, b, i, j);
-    put32(c, k, old.add(sum));
+    settle(beta, sum, c, plan.target, i, j);
 }
 
 // Row i of her2k's target.
@@ -317,6 +327,251 @@ fn her2k_rows(alpha: Real32, beta: Beta32, plan: Plan, a: &[f32], b: &[f32], c: 
     while i < m {
         her2k_row(alpha, beta, plan, a, b, c, i);
         i += 1;
+    }
+}
+
+// Each of eight sums plus x times an element of B and then y times an element of A, those of row p from column j on.
+fn add_both(
+    x: Real32,
+    b: &[f32],
+    vb: View,
+    y: Real32,
+    a: &[f32],
+    va: View,
+    p: usize,
+    j: usize,
+    sums: [f32; 8],
+) -> [f32; 8]
+    requires { ⌜ Within vb (real32 .count (now b)) p (j + 7) × Within va (real32 .count (now a)) p (j + 7) ⌝ }
+    ensures { λ r. ⌜ Eight real32 r (λ t. real32 .add (real32 .add (real32 .at sums t) (real32 .mul (x .0) (elem real32 (now (b .entry)) vb p (j + t)))) (real32 .mul (y .0) (elem real32 (now (a .entry)) va p (j + t)))) ⌝ }
+{
+    let first = add_eight32(x, b, vb, p, j, sums);
+    add_eight32(y, a, va, p, j, first)
+}
+
+// Each of eight sums, those of the columns from j on, with the two products at p added one after the other.
+fn add_pairs(
+    plan: Plan,
+    a: &[f32],
+    b: &[f32],
+    p: usize,
+    i: usize,
+    j: usize,
+    sums: [f32; 8],
+) -> [f32; 8]
+    requires { ⌜ Entry plan (real32 .count (now a)) (real32 .count (now b)) i (j + 7) × (p < plan .terms) ⌝ }
+    ensures { λ r. ⌜ Eight real32 r (λ t. pairAt real32 plan (now (a .entry)) (now (b .entry)) i (j + t) p (real32 .at sums t)) ⌝ }
+{
+    let left = plan.left_conj;
+    let x = read(left, a, plan.left_a, i, p);
+    let y = read(left, b, plan.left_b, i, p);
+    add_both(x, b, plan.right_b, y, a, plan.right_a, p, j, sums)
+}
+
+// The sums of all pairs of products for the eight elements of row i from column j on.
+fn pair_sums(plan: Plan, a: &[f32], b: &[f32], i: usize, j: usize) -> [f32; 8]
+    requires { ⌜ Entry plan (real32 .count (now a)) (real32 .count (now b)) i (j + 7) ⌝ }
+    ensures { λ r. ⌜ Eight real32 r (λ t. pairsAt real32 plan (now (a .entry)) (now (b .entry)) i (j + t) (plan .terms)) ⌝ }
+{
+    let n = plan.terms;
+    let mut sums = [0.0; 8];
+    let mut p = 0;
+    while p < n {
+        let next = add_pairs(plan, a, b, p, i, j, sums);
+        sums = next;
+        p += 1;
+    }
+    sums
+}
+
+// The same with the left factors weighed by alpha and by its conjugate.
+fn add_weigheds(
+    alpha: Real32,
+    plan: Plan,
+    a: &[f32],
+    b: &[f32],
+    p: usize,
+    i: usize,
+    j: usize,
+    sums: [f32; 8],
+) -> [f32; 8]
+    requires { ⌜ Entry plan (real32 .count (now a)) (real32 .count (now b)) i (j + 7) × (p < plan .terms) ⌝ }
+    ensures { λ r. ⌜ Eight real32 r (λ t. weighedAt real32 plan (now (a .entry)) (now (b .entry)) (alpha .0) i (j + t) p (real32 .at sums t)) ⌝ }
+{
+    let left = plan.left_conj;
+    let x = alpha.mul(read(left, a, plan.left_a, i, p));
+    let y = alpha.conj().mul(read(left, b, plan.left_b, i, p));
+    add_both(x, b, plan.right_b, y, a, plan.right_a, p, j, sums)
+}
+
+// The sums of all of them.
+fn weighed_sums(alpha: Real32, plan: Plan, a: &[f32], b: &[f32], i: usize, j: usize) -> [f32; 8]
+    requires { ⌜ Entry plan (real32 .count (now a)) (real32 .count (now b)) i (j + 7) ⌝ }
+    ensures { λ r. ⌜ Eight real32 r (λ t. weighedsAt real32 plan (now (a .entry)) (now (b .entry)) (alpha .0) i (j + t) (plan .terms)) ⌝ }
+{
+    let n = plan.terms;
+    let mut sums = [0.0; 8];
+    let mut p = 0;
+    while p < n {
+        let next = add_weigheds(alpha, plan, a, b, p, i, j, sums);
+        sums = next;
+        p += 1;
+    }
+    sums
+}
+
+// Columns first to before end of row i of syr2k's target, which are among the eight columns from `from` on.
+fn syr2k_block(
+    alpha: Real32,
+    beta: Beta32,
+    plan: Plan,
+    a: &[f32],
+    b: &[f32],
+    c: &mut [f32],
+    i: usize,
+    from: usize,
+    first: usize,
+    end: usize,
+)
+    requires { ⌜ Block plan (real32 .count (now a)) (real32 .count (now b)) (real32 .count (now c)) i from first end ⌝ }
+    ensures { λ _. ⌜ now (c .exit) ≡ updateColumns real32 (plan .target) (syr2kChange real32 plan (now (a .entry)) (now (b .entry)) (alpha .0) (scaleBy32 beta)) i first end (now (c .entry)) ⌝ }
+{
+    let sums = pair_sums(plan, a, b, i, from);
+    let mut j = first;
+    while j < end {
+        settle(
+            beta,
+            alpha.mul(Real32(sums[j - from])),
+            c,
+            plan.target,
+            i,
+            j,
+        );
+        j += 1;
+    }
+}
+
+// Row i of syr2k's target of at least eight columns.
+fn syr2k_wide_row(
+    alpha: Real32,
+    beta: Beta32,
+    plan: Plan,
+    a: &[f32],
+    b: &[f32],
+    c: &mut [f32],
+    i: usize,
+)
+    requires { ⌜ Paired plan (real32 .count (now a)) (real32 .count (now b)) (real32 .count (now c)) × (i < plan .target .rows) × (8 ≤ plan .target .cols) ⌝ }
+    ensures { λ _. ⌜ now (c .exit) ≡ updateRow real32 (plan .target) (inTriangle (plan .uplo)) (syr2kChange real32 plan (now (a .entry)) (now (b .entry)) (alpha .0) (scaleBy32 beta)) i (plan .target .cols) (now (c .entry)) ⌝ }
+{
+    let uplo = plan.uplo;
+    let n = cols(plan.target);
+    let end = end_col(uplo, i, n);
+    let mut j = first_col(uplo, i);
+    while j < end {
+        let from = block_start(j, n);
+        let stop = block_end(from, end);
+        syr2k_block(alpha, beta, plan, a, b, c, i, from, j, stop);
+        j = stop;
+    }
+}
+
+// The whole of syr2k's target of at least eight columns.
+fn syr2k_wide(alpha: Real32, beta: Beta32, plan: Plan, a: &[f32], b: &[f32], c: &mut [f32])
+    requires { ⌜ Paired plan (real32 .count (now a)) (real32 .count (now b)) (real32 .count (now c)) × (8 ≤ plan .target .cols) ⌝ }
+    ensures { λ _. ⌜ now (c .exit) ≡ update real32 (plan .target) (inTriangle (plan .uplo)) (syr2kChange real32 plan (now (a .entry)) (now (b .entry)) (alpha .0) (scaleBy32 beta)) (now (c .entry)) ⌝ }
+{
+    let m = rows(plan.target);
+    let mut i = 0;
+    while i < m {
+        syr2k_wide_row(alpha, beta, plan, a, b, c, i);
+        i += 1;
+    }
+}
+
+// syr2k's target, of however many columns.
+fn syr2k_target(alpha: Real32, beta: Beta32, plan: Plan, a: &[f32], b: &[f32], c: &mut [f32])
+    requires { ⌜ Paired plan (real32 .count (now a)) (real32 .count (now b)) (real32 .count (now c)) ⌝ }
+    ensures { λ _. ⌜ now (c .exit) ≡ update real32 (plan .target) (inTriangle (plan .uplo)) (syr2kChange real32 plan (now (a .entry)) (now (b .entry)) (alpha .0) (scaleBy32 beta)) (now (c .entry)) ⌝ }
+{
+    if 8 <= cols(plan.target) {
+        syr2k_wide(alpha, beta, plan, a, b, c);
+    } else {
+        syr2k_rows(alpha, beta, plan, a, b, c);
+    }
+}
+
+// Columns first to before end of row i of her2k's target, which are among the eight columns from `from` on.
+fn her2k_block(
+    alpha: Real32,
+    beta: Beta32,
+    plan: Plan,
+    a: &[f32],
+    b: &[f32],
+    c: &mut [f32],
+    i: usize,
+    from: usize,
+    first: usize,
+    end: usize,
+)
+    requires { ⌜ Block plan (real32 .count (now a)) (real32 .count (now b)) (real32 .count (now c)) i from first end ⌝ }
+    ensures { λ _. ⌜ now (c .exit) ≡ updateColumns real32 (plan .target) (her2kChange real32 plan (now (a .entry)) (now (b .entry)) (alpha .0) (scaleBy32 beta)) i first end (now (c .entry)) ⌝ }
+{
+    let sums = weighed_sums(alpha, plan, a, b, i, from);
+    let mut j = first;
+    while j < end {
+        settle(beta, Real32(sums[j - from]), c, plan.target, i, j);
+        j += 1;
+    }
+}
+
+// Row i of her2k's target of at least eight columns.
+fn her2k_wide_row(
+    alpha: Real32,
+    beta: Beta32,
+    plan: Plan,
+    a: &[f32],
+    b: &[f32],
+    c: &mut [f32],
+    i: usize,
+)
+    requires { ⌜ Paired plan (real32 .count (now a)) (real32 .count (now b)) (real32 .count (now c)) × (i < plan .target .rows) × (8 ≤ plan .target .cols) ⌝ }
+    ensures { λ _. ⌜ now (c .exit) ≡ updateRow real32 (plan .target) (inTriangle (plan .uplo)) (her2kChange real32 plan (now (a .entry)) (now (b .entry)) (alpha .0) (scaleBy32 beta)) i (plan .target .cols) (now (c .entry)) ⌝ }
+{
+    let uplo = plan.uplo;
+    let n = cols(plan.target);
+    let end = end_col(uplo, i, n);
+    let mut j = first_col(uplo, i);
+    while j < end {
+        let from = block_start(j, n);
+        let stop = block_end(from, end);
+        her2k_block(alpha, beta, plan, a, b, c, i, from, j, stop);
+        j = stop;
+    }
+}
+
+// The whole of her2k's target of at least eight columns.
+fn her2k_wide(alpha: Real32, beta: Beta32, plan: Plan, a: &[f32], b: &[f32], c: &mut [f32])
+    requires { ⌜ Paired plan (real32 .count (now a)) (real32 .count (now b)) (real32 .count (now c)) × (8 ≤ plan .target .cols) ⌝ }
+    ensures { λ _. ⌜ now (c .exit) ≡ update real32 (plan .target) (inTriangle (plan .uplo)) (her2kChange real32 plan (now (a .entry)) (now (b .entry)) (alpha .0) (scaleBy32 beta)) (now (c .entry)) ⌝ }
+{
+    let m = rows(plan.target);
+    let mut i = 0;
+    while i < m {
+        her2k_wide_row(alpha, beta, plan, a, b, c, i);
+        i += 1;
+    }
+}
+
+// her2k's target, of however many columns.
+fn her2k_target(alpha: Real32, beta: Beta32, plan: Plan, a: &[f32], b: &[f32], c: &mut [f32])
+    requires { ⌜ Paired plan (real32 .count (now a)) (real32 .count (now b)) (real32 .count (now c)) ⌝ }
+    ensures { λ _. ⌜ now (c .exit) ≡ update real32 (plan .target) (inTriangle (plan .uplo)) (her2kChange real32 plan (now (a .entry)) (now (b .entry)) (alpha .0) (scaleBy32 beta)) (now (c .entry)) ⌝ }
+{
+    if 8 <= cols(plan.target) {
+        her2k_wide(alpha, beta, plan, a, b, c);
+    } else {
+        her2k_rows(alpha, beta, plan, a, b, c);
     }
 }
 
@@ -381,7 +636,7 @@ pub fn syr2k(
     let answer = check_syr2k(quick, trans, va, a.len(), vb, b.len(), vc, c.len());
     if passed(answer) {
         let plan = syr2k_plan(uplo, trans, va, vb, vc);
-        syr2k_rows(alpha, Beta32::judge(beta), plan, a, b, c);
+        syr2k_target(alpha, Beta32::judge(beta), plan, a, b, c);
     }
     answer
 }
@@ -405,7 +660,7 @@ pub fn her2k(
     let answer = check_her2k(quick, trans, va, a.len(), vb, b.len(), vc, c.len());
     if passed(answer) {
         let plan = her2k_plan(uplo, trans, va, vb, vc);
-        her2k_rows(alpha, Beta32::judge(Real32(beta)), plan, a, b, c);
+        her2k_target(alpha, Beta32::judge(Real32(beta)), plan, a, b, c);
     }
     answer
 }
