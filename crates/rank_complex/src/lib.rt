@@ -63,13 +63,13 @@ fn her_entry(w: Complex, x: &[f64], vx: View, a: &mut [f64], va: View, i: usize,
     put_complex(a, t, old.add(term));
 }
 
-// Row i of her's target.
+// Row i of her's target, which has as many columns as rows.
 fn her_row(uplo: UpLo, alpha: f64, x: &[f64], vx: View, a: &mut [f64], va: View, i: usize)
     requires { ⌜ One vx (complex .count (now x)) va (complex .count (now a)) × (i < va .rows) ⌝ }
     ensures { λ _. ⌜ now (a .exit) ≡ updateRow complex va (inTriangle uplo) (Her.herChange complex alpha (elem complex (now (x .entry)) vx)) i (va .cols) (now (a .entry)) ⌝ }
 {
     let w = elem_complex(x, vx, i, 0).scale_real(alpha);
-    let end = end_col(uplo, i, cols(va));
+    let end = end_col(uplo, i, rows(va));
     let mut j = first_col(uplo, i);
     while j < end {
         her_entry(w, x, vx, a, va, i, j);

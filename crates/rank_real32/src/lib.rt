@@ -67,13 +67,13 @@ fn her_entry(w: Real32, x: &[f32], vx: View, a: &mut [f32], va: View, i: usize, 
     put32(a, t, old.add(term));
 }
 
-// Row i of her's target.
+// Row i of her's target, which has as many columns as rows.
 fn her_row(uplo: UpLo, alpha: f32, x: &[f32], vx: View, a: &mut [f32], va: View, i: usize)
     requires { ⌜ One vx (real32 .count (now x)) va (real32 .count (now a)) × (i < va .rows) ⌝ }
     ensures { λ _. ⌜ now (a .exit) ≡ updateRow real32 va (inTriangle uplo) (Her.herChange real32 alpha (elem real32 (now (x .entry)) vx)) i (va .cols) (now (a .entry)) ⌝ }
 {
     let w = elem32(x, vx, i, 0).scale_real(alpha);
-    let end = end_col(uplo, i, cols(va));
+    let end = end_col(uplo, i, rows(va));
     let mut j = first_col(uplo, i);
     while j < end {
         her_entry(w, x, vx, a, va, i, j);

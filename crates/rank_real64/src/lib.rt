@@ -67,13 +67,13 @@ fn her_entry(w: Real64, x: &[f64], vx: View, a: &mut [f64], va: View, i: usize, 
     put64(a, t, old.add(term));
 }
 
-// Row i of her's target.
+// Row i of her's target, which has as many columns as rows.
 fn her_row(uplo: UpLo, alpha: f64, x: &[f64], vx: View, a: &mut [f64], va: View, i: usize)
     requires { ⌜ One vx (real64 .count (now x)) va (real64 .count (now a)) × (i < va .rows) ⌝ }
     ensures { λ _. ⌜ now (a .exit) ≡ updateRow real64 va (inTriangle uplo) (Her.herChange real64 alpha (elem real64 (now (x .entry)) vx)) i (va .cols) (now (a .entry)) ⌝ }
 {
     let w = elem64(x, vx, i, 0).scale_real(alpha);
-    let end = end_col(uplo, i, cols(va));
+    let end = end_col(uplo, i, rows(va));
     let mut j = first_col(uplo, i);
     while j < end {
         her_entry(w, x, vx, a, va, i, j);

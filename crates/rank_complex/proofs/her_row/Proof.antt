@@ -1,5 +1,5 @@
 use Prim.Native.Nat.{ℕ, _≤_, _-_, _/_}
-use mathlib.Core.Path.{_≡_, refl, ap, _∙_}
+use mathlib.Core.Path.{_≡_, refl, sym, ap, _∙_}
 use native.Mathlib.Omega.{arith}
 use lib.ListN.{length}
 use denote.Ref.{now}
@@ -23,13 +23,13 @@ elem-complex-requires : tie.Need-elem-complex-requires Inv-loop μ-loop
 elem-complex-requires c κs = column-shows _ _ _ (c .before .before .pre .0 .x) _ (c .before .before .pre .1)
 
 end-col-requires : tie.Need-end-col-requires Inv-loop μ-loop
-end-col-requires c κs = let s = c .before .before .before .before .before in row-lt _ _ (s .pre .0 .target) _ (s .pre .1) _ (c .cols .ensures)
+end-col-requires c κs = let s = c .before .before .before .before .before in row-lt _ _ (s .pre .0 .target) _ (s .pre .1) _ (c .rows .ensures ∙ sym (s .pre .0 .target .cols))
 
 loop-holds : tie.Need-loop-holds Inv-loop μ-loop
 loop-holds c =
     let s = c .before .before .before .before .before .before .before in (
       omega arith,
-      begins _ _ (s .pre .0 .target) _ (s .pre .1) _ (c .before .before .cols .ensures) (s .args .uplo) _ _ (c .before .end-col .ensures) (c .first-col .ensures),
+      begins _ _ (s .pre .0 .target) _ (s .pre .1) _ (c .before .before .rows .ensures ∙ sym (s .pre .0 .target .cols)) (s .args .uplo) _ _ (c .before .end-col .ensures) (c .first-col .ensures),
       refl,
       span-start complex _ _ _ _ _,
     )
@@ -38,7 +38,7 @@ her-entry-requires : tie.Need-her-entry-requires Inv-loop μ-loop
 her-entry-requires c κs =
     let s = c .before .before .before .before .before .before .before .before .before .before in
     one-shows _ _ _ _ _ (ap (λ (n : ℕ). n / 2) (c .before .before .loop .inv .2)) (s .pre .0) _ _ (s .pre .1)
-    (column-lt _ _ (s .pre .0 .target) _ (s .pre .1) _ (c .before .before .before .before .before .cols .ensures) (s .args .uplo) _ _ (c .before .before .before .before .end-col .ensures) (omega arith))
+    (column-lt _ _ (s .pre .0 .target) _ (s .pre .1) _ (c .before .before .before .before .before .rows .ensures ∙ sym (s .pre .0 .target .cols)) (s .args .uplo) _ _ (c .before .before .before .before .end-col .ensures) (omega arith))
 
 loop-again : tie.Need-loop-again Inv-loop μ-loop
 loop-again c =
@@ -55,10 +55,10 @@ returns c =
     let p = s .args in
     let l = c .before .loop in
     span-last complex (p .va) (p .i) (p .uplo) (λ r k. addOne complex (c .before .before .before .before .before .scale-real .result) (elem complex (now (p .x)) (p .vx)) k) (herChange complex (p .alpha) (elem complex (now (p .x)) (p .vx))) _ _ _ _ _ _
-    (c .before .before .before .before .cols .ensures)
+    (c .before .before .before .before .rows .ensures ∙ sym (s .pre .0 .target .cols))
     (c .before .before .first-col .ensures)
     (c .before .before .before .end-col .ensures)
-    (row-lt _ _ (s .pre .0 .target) _ (s .pre .1) _ (c .before .before .before .before .cols .ensures))
+    (row-lt _ _ (s .pre .0 .target) _ (s .pre .1) _ (c .before .before .before .before .rows .ensures ∙ sym (s .pre .0 .target .cols)))
     (l .inv .1)
     (omega arith)
     (l .inv .3)
