@@ -1,7 +1,7 @@
 -- Eight sums of pairs of products side by side, as a loop meets them, and the columns of a row that are settled from them.
 use Prim.Native.Nat.{ℕ, _+_, _-_, _^_, _≤_, _<_}
 use mathlib.Core.List.{List}
-use mathlib.Core.Path.{_≡_, refl, sym, ap, subst, _∙_}
+use mathlib.Core.Path.{_≡_, refl, sym, ap, _∙_}
 use native.Mathlib.Omega.{arith}
 use lib.Ieee.{Float, Format, nan, ofBits}
 use lib.ListN.{replicate, length-replicate, getD-replicate}

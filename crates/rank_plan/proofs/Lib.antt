@@ -1,4 +1,4 @@
--- What the code reads and writes is inside the slabs, its loops over the named triangle,
+-- What the code reads and writes is inside the slabs, its loops over the named triangle, eight sums side by side,
 -- why a call that its check passes is ready, and what each kernel has to show.
 pub mod Inside
 pub mod Rows
