@@ -5,7 +5,6 @@ ghost use mathlib.Core.Path.{_≡_};
 ghost use Prim.Native.Nat.{_<_};
 ghost use Rattle.number.specs.Kind.{complex};
 ghost use Rattle.number.specs.Scaling.{scaleByComplex};
-ghost use Rattle.view.specs.Place.{index};
 ghost use Rattle.view.specs.Triangle.{inTriangle};
 ghost use Rattle.slab.specs.Elem.{elem, lent, Within};
 ghost use Rattle.slab.specs.Update.{replaced, updateRow, update};
@@ -16,7 +15,7 @@ ghost use Rattle.blas.specs.Her2;
 ghost use Rattle.blas.specs.Her2k;
 ghost use Rattle.blas.specs.Syr2k;
 ghost use Rattle.rank_plan.specs.Change.{addOne, addTwo, pairAt, pairsAt, weighedAt, weighedsAt, syr2kChange, her2kChange};
-ghost use Rattle.rank_plan.specs.Ready.{One, Two, RowAt, Entry, Paired};
+ghost use Rattle.rank_plan.specs.Ready.{One, Two, Entry, Paired};
 use judge::check_her;
 use judge::check_her2;
 use judge::check_her2k;
@@ -32,20 +31,16 @@ use rank_plan::syr2k_plan;
 use slab::elem_complex;
 use slab::get_complex;
 use slab::put_complex;
-use std::num::wrapping_add_usize;
 use view::Answer;
 use view::Trans;
 use view::UpLo;
 use view::View;
-use view::col_step;
 use view::cols;
 use view::column;
-use view::diagonal_step;
 use view::end_col;
 use view::first_col;
 use view::passed;
 use view::place;
-use view::row_step;
 use view::rows;
 
 // Element (i, j) of a matrix, conjugated where asked.
@@ -57,106 +52,28 @@ fn read(conj: bool, s: &[f64], v: View, i: usize, j: usize) -> Complex
     if conj { x.conj() } else { x }
 }
 
-// Element (i, j) of her's target, at place t, where w is alpha·xi and xj is at place u.
-fn her_entry(
-    w: Complex,
-    x: &[f64],
-    vx: View,
-    u: usize,
-    a: &mut [f64],
-    va: View,
-    t: usize,
-    i: usize,
-    j: usize,
-)
-    requires { ⌜ Within vx (complex .count (now x)) j 0 × Within va (complex .count (now a)) i j × (u ≡ index vx j 0) × (t ≡ index va i j) ⌝ }
+// Element (i, j) of her's target, where w is alpha·xi.
+fn her_entry(w: Complex, x: &[f64], vx: View, a: &mut [f64], va: View, i: usize, j: usize)
+    requires { ⌜ Within vx (complex .count (now x)) j 0 × Within va (complex .count (now a)) i j ⌝ }
     ensures { λ _. ⌜ now (a .exit) ≡ replaced complex va i j (addOne complex w (elem complex (now (x .entry)) vx) j) (now (a .entry)) ⌝ }
 {
+    let t = place(va, i, j);
     let old = get_complex(a, t);
-    let term = w.mul(get_complex(x, u).conj());
+    let term = w.mul(elem_complex(x, vx, j, 0).conj());
     put_complex(a, t, old.add(term));
 }
 
-// Row i of her's target: xi is at place `own`, the row's first element at t and its factor in x at u.
-fn her_row(
-    uplo: UpLo,
-    alpha: f64,
-    x: &[f64],
-    vx: View,
-    own: usize,
-    u: usize,
-    a: &mut [f64],
-    va: View,
-    t: usize,
-    i: usize,
-    begin: usize,
-    n: usize,
-)
-    requires { ⌜ One vx (complex .count (now x)) va (complex .count (now a)) × RowAt uplo vx va i own u t begin n ⌝ }
+// Row i of her's target, which has as many columns as rows.
+fn her_row(uplo: UpLo, alpha: f64, x: &[f64], vx: View, a: &mut [f64], va: View, i: usize)
+    requires { ⌜ One vx (complex .count (now x)) va (complex .count (now a)) × (i < va .rows) ⌝ }
     ensures { λ _. ⌜ now (a .exit) ≡ updateRow complex va (inTriangle uplo) (Her.herChange complex alpha (elem complex (now (x .entry)) vx)) i (va .cols) (now (a .entry)) ⌝ }
 {
-    let w = get_complex(x, own).scale_real(alpha);
-    let along = col_step(va);
-    let down = row_step(vx);
-    let mut at = t;
-    let mut by = u;
-    let mut j = 0;
-    while j < n {
-        her_entry(w, x, vx, by, a, va, at, i, begin + j);
-        at = wrapping_add_usize(at, along);
-        by = wrapping_add_usize(by, down);
+    let w = elem_complex(x, vx, i, 0).scale_real(alpha);
+    let end = end_col(uplo, i, rows(va));
+    let mut j = first_col(uplo, i);
+    while j < end {
+        her_entry(w, x, vx, a, va, i, j);
         j += 1;
-    }
-}
-
-// The upper triangle of her's target, by rows from the diagonal on; x is a column.
-fn her_upper(alpha: f64, x: &[f64], vx: View, a: &mut [f64], va: View)
-    requires { ⌜ One vx (complex .count (now x)) va (complex .count (now a)) ⌝ }
-    ensures { λ _. ⌜ now (a .exit) ≡ update complex va (inTriangle UpLo.Upper) (Her.herChange complex alpha (elem complex (now (x .entry)) vx)) (now (a .entry)) ⌝ }
-{
-    let m = rows(va);
-    let down = row_step(vx);
-    let diagonal = diagonal_step(va);
-    let mut own = vx.start;
-    let mut t = va.start;
-    let mut i = 0;
-    while i < m {
-        her_row(UpLo::Upper, alpha, x, vx, own, own, a, va, t, i, i, m - i);
-        own = wrapping_add_usize(own, down);
-        t = wrapping_add_usize(t, diagonal);
-        i += 1;
-    }
-}
-
-// The lower triangle of her's target, by rows up to the diagonal; x is a column.
-fn her_lower(alpha: f64, x: &[f64], vx: View, a: &mut [f64], va: View)
-    requires { ⌜ One vx (complex .count (now x)) va (complex .count (now a)) ⌝ }
-    ensures { λ _. ⌜ now (a .exit) ≡ update complex va (inTriangle UpLo.Lower) (Her.herChange complex alpha (elem complex (now (x .entry)) vx)) (now (a .entry)) ⌝ }
-{
-    let m = rows(va);
-    let down = row_step(vx);
-    let fall = row_step(va);
-    let mut own = vx.start;
-    let mut t = va.start;
-    let mut i = 0;
-    while i < m {
-        her_row(
-            UpLo::Lower,
-            alpha,
-            x,
-            vx,
-            own,
-            vx.start,
-            a,
-            va,
-            t,
-            i,
-            0,
-            i + 1,
-        );
-        own = wrapping_add_usize(own, down);
-        t = wrapping_add_usize(t, fall);
-        i += 1;
     }
 }
 
@@ -165,153 +82,60 @@ fn her_rows(uplo: UpLo, alpha: f64, x: &[f64], vx: View, a: &mut [f64], va: View
     requires { ⌜ One vx (complex .count (now x)) va (complex .count (now a)) ⌝ }
     ensures { λ _. ⌜ now (a .exit) ≡ update complex va (inTriangle uplo) (Her.herChange complex alpha (elem complex (now (x .entry)) vx)) (now (a .entry)) ⌝ }
 {
-    match uplo {
-        UpLo::Upper => her_upper(alpha, x, vx, a, va),
-        UpLo::Lower => her_lower(alpha, x, vx, a, va),
+    let m = rows(va);
+    let mut i = 0;
+    while i < m {
+        her_row(uplo, alpha, x, vx, a, va, i);
+        i += 1;
     }
 }
 
-// Element (i, j) of her2's target, at place t, where w is alpha·xi and w2 is conj(alpha)·yi, xj is at place u and yj at place z.
+// Element (i, j) of her2's target, where w is alpha·xi and w2 is conj(alpha)·yi.
 fn her2_entry(
     w: Complex,
     w2: Complex,
     x: &[f64],
     vx: View,
-    u: usize,
     y: &[f64],
     vy: View,
-    z: usize,
     a: &mut [f64],
     va: View,
-    t: usize,
     i: usize,
     j: usize,
 )
-    requires { ⌜ Within vx (complex .count (now x)) j 0 × Within vy (complex .count (now y)) j 0 × Within va (complex .count (now a)) i j × (u ≡ index vx j 0) × (z ≡ index vy j 0) × (t ≡ index va i j) ⌝ }
+    requires { ⌜ Within vx (complex .count (now x)) j 0 × Within vy (complex .count (now y)) j 0 × Within va (complex .count (now a)) i j ⌝ }
     ensures { λ _. ⌜ now (a .exit) ≡ replaced complex va i j (addTwo complex w w2 (elem complex (now (x .entry)) vx) (elem complex (now (y .entry)) vy) j) (now (a .entry)) ⌝ }
 {
+    let t = place(va, i, j);
     let old = get_complex(a, t);
-    let first = w.mul(get_complex(y, z).conj());
-    let second = w2.mul(get_complex(x, u).conj());
+    let first = w.mul(elem_complex(y, vy, j, 0).conj());
+    let second = w2.mul(elem_complex(x, vx, j, 0).conj());
     put_complex(a, t, old.add(first).add(second));
 }
 
-// Row i of her2's target: xi and yi are at places `ownx` and `owny`, the row's first element at t and its factors in x and y at u and z.
+// Row i of her2's target.
 fn her2_row(
     uplo: UpLo,
     alpha: Complex,
     x: &[f64],
     vx: View,
-    ownx: usize,
-    u: usize,
     y: &[f64],
     vy: View,
-    owny: usize,
-    z: usize,
     a: &mut [f64],
     va: View,
-    t: usize,
     i: usize,
-    begin: usize,
-    n: usize,
 )
-    requires { ⌜ Two vx (complex .count (now x)) vy (complex .count (now y)) va (complex .count (now a)) × RowAt uplo vx va i ownx u t begin n × RowAt uplo vy va i owny z t begin n ⌝ }
+    requires { ⌜ Two vx (complex .count (now x)) vy (complex .count (now y)) va (complex .count (now a)) × (i < va .rows) ⌝ }
     ensures { λ _. ⌜ now (a .exit) ≡ updateRow complex va (inTriangle uplo) (Her2.her2Change complex alpha (elem complex (now (x .entry)) vx) (elem complex (now (y .entry)) vy)) i (va .cols) (now (a .entry)) ⌝ }
 {
-    let w = alpha.mul(get_complex(x, ownx));
+    let w = alpha.mul(elem_complex(x, vx, i, 0));
     let conjugate = alpha.conj();
-    let w2 = conjugate.mul(get_complex(y, owny));
-    let along = col_step(va);
-    let downx = row_step(vx);
-    let downy = row_step(vy);
-    let mut at = t;
-    let mut byx = u;
-    let mut byy = z;
-    let mut j = 0;
-    while j < n {
-        her2_entry(w, w2, x, vx, byx, y, vy, byy, a, va, at, i, begin + j);
-        at = wrapping_add_usize(at, along);
-        byx = wrapping_add_usize(byx, downx);
-        byy = wrapping_add_usize(byy, downy);
+    let w2 = conjugate.mul(elem_complex(y, vy, i, 0));
+    let end = end_col(uplo, i, cols(va));
+    let mut j = first_col(uplo, i);
+    while j < end {
+        her2_entry(w, w2, x, vx, y, vy, a, va, i, j);
         j += 1;
-    }
-}
-
-// The upper triangle of her2's target, by rows from the diagonal on; x and y are columns.
-fn her2_upper(alpha: Complex, x: &[f64], vx: View, y: &[f64], vy: View, a: &mut [f64], va: View)
-    requires { ⌜ Two vx (complex .count (now x)) vy (complex .count (now y)) va (complex .count (now a)) ⌝ }
-    ensures { λ _. ⌜ now (a .exit) ≡ update complex va (inTriangle UpLo.Upper) (Her2.her2Change complex alpha (elem complex (now (x .entry)) vx) (elem complex (now (y .entry)) vy)) (now (a .entry)) ⌝ }
-{
-    let m = rows(va);
-    let downx = row_step(vx);
-    let downy = row_step(vy);
-    let diagonal = diagonal_step(va);
-    let mut ownx = vx.start;
-    let mut owny = vy.start;
-    let mut t = va.start;
-    let mut i = 0;
-    while i < m {
-        her2_row(
-            UpLo::Upper,
-            alpha,
-            x,
-            vx,
-            ownx,
-            ownx,
-            y,
-            vy,
-            owny,
-            owny,
-            a,
-            va,
-            t,
-            i,
-            i,
-            m - i,
-        );
-        ownx = wrapping_add_usize(ownx, downx);
-        owny = wrapping_add_usize(owny, downy);
-        t = wrapping_add_usize(t, diagonal);
-        i += 1;
-    }
-}
-
-// The lower triangle of her2's target, by rows up to the diagonal; x and y are columns.
-fn her2_lower(alpha: Complex, x: &[f64], vx: View, y: &[f64], vy: View, a: &mut [f64], va: View)
-    requires { ⌜ Two vx (complex .count (now x)) vy (complex .count (now y)) va (complex .count (now a)) ⌝ }
-    ensures { λ _. ⌜ now (a .exit) ≡ update complex va (inTriangle UpLo.Lower) (Her2.her2Change complex alpha (elem complex (now (x .entry)) vx) (elem complex (now (y .entry)) vy)) (now (a .entry)) ⌝ }
-{
-    let m = rows(va);
-    let downx = row_step(vx);
-    let downy = row_step(vy);
-    let fall = row_step(va);
-    let mut ownx = vx.start;
-    let mut owny = vy.start;
-    let mut t = va.start;
-    let mut i = 0;
-    while i < m {
-        her2_row(
-            UpLo::Lower,
-            alpha,
-            x,
-            vx,
-            ownx,
-            vx.start,
-            y,
-            vy,
-            owny,
-            vy.start,
-            a,
-            va,
-            t,
-            i,
-            0,
-            i + 1,
-        );
-        ownx = wrapping_add_usize(ownx, downx);
-        owny = wrapping_add_usize(owny, downy);
-        t = wrapping_add_usize(t, fall);
-        i += 1;
     }
 }
 
@@ -329,9 +153,11 @@ fn her2_rows(
     requires { ⌜ Two vx (complex .count (now x)) vy (complex .count (now y)) va (complex .count (now a)) ⌝ }
     ensures { λ _. ⌜ now (a .exit) ≡ update complex va (inTriangle uplo) (Her2.her2Change complex alpha (elem complex (now (x .entry)) vx) (elem complex (now (y .entry)) vy)) (now (a .entry)) ⌝ }
 {
-    match uplo {
-        UpLo::Upper => her2_upper(alpha, x, vx, y, vy, a, va),
-        UpLo::Lower => her2_lower(alpha, x, vx, y, vy, a, va),
+    let m = rows(va);
+    let mut i = 0;
+    while i < m {
+        her2_row(uplo, alpha, x, vx, y, vy, a, va, i);
+        i += 1;
     }
 }
 

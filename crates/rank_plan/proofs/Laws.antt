@@ -5,7 +5,6 @@ use mathlib.Core.Path.{_≡_, ap, _∙_}
 use Rattle.number.specs.Kind.{Kind}
 use Rattle.view.specs.declared.View.{View}
 use Rattle.view.specs.Place.{index}
-use Rattle.slab.specs.Elem.{elem}
 use Rattle.blas.specs.Matrix.{Matrix}
 use Rattle.blas.specs.Her.{herChange}
 use Rattle.blas.specs.Her2.{her2Change}
@@ -19,14 +18,6 @@ put-replaced K v i j f c after k old new placed read changed e =
     e
     ∙ ap (K .put c k) (changed ∙ ap f read)
     ∙ ap (λ (p : ℕ). K .put c p (f (K .at c p))) placed
-
--- what is read at the place of element (i, j), and its conjugate
-module _ (K : Kind) (s : List (K .Cell)) (v : View) (i j k : ℕ) (x : K .Elem) (placed : k ≡ index v i j) (read : x ≡ K .at s k) where
-  pub read-elem : x ≡ elem K s v i j
-  read-elem = read ∙ ap (K .at s) placed
-
-  pub read-conj : (y : K .Elem) → y ≡ K .conj x → y ≡ K .conj (elem K s v i j)
-  read-conj y e = e ∙ ap (K .conj) read-elem
 
 -- m, the product of x and y, is added to a sum
 pub more : (K : Kind) (sum x y m next ex ey : K .Elem) → x ≡ ex → y ≡ ey → m ≡ K .mul x y → next ≡ K .add sum m → next ≡ K .add sum (K .mul ex ey)

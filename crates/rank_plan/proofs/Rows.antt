@@ -15,11 +15,11 @@ use Rattle.rank_plan.specs.Ready.{SquareWithin}
 
 -- ---- the columns in the named triangle
 
-pub end-le : (uplo : UpLo) (i n : ℕ) → i < n → endCol uplo i n ≤ n
+end-le : (uplo : UpLo) (i n : ℕ) → i < n → endCol uplo i n ≤ n
 end-le Upper i n h = omega arith
 end-le Lower i n h = omega arith
 
-pub first-le : (uplo : UpLo) (i n : ℕ) → i < n → firstCol uplo i ≤ endCol uplo i n
+first-le : (uplo : UpLo) (i n : ℕ) → i < n → firstCol uplo i ≤ endCol uplo i n
 first-le Upper i n h = omega arith
 first-le Lower i n h = omega arith
 

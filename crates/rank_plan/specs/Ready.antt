@@ -1,10 +1,7 @@
 -- What the code asks of its caller: that it reads and writes inside the slabs, of la, lb and lc elements.
-use Prim.Native.Nat.{ℕ, _+_, _<_}
+use Prim.Native.Nat.{ℕ, _+_, _≤_, _<_}
 use mathlib.Core.Path.{_≡_}
 use Rattle.view.specs.declared.View.{View}
-use Rattle.view.specs.declared.UpLo.{UpLo}
-use Rattle.view.specs.Place.{index}
-use Rattle.view.specs.Triangle.{firstCol, endCol}
 use Rattle.view.specs.Steps.{Accepted}
 use Rattle.rank_plan.specs.declared.plan.Plan.{Plan}
 
@@ -28,15 +25,6 @@ pub record Two (vx : View) (lx : ℕ) (vy : View) (ly : ℕ) (va : View) (la : �
   pub y : Sized vy ly (va .rows) 1
   pub target : SquareWithin va la
 
--- where row i of the named triangle is gone over: xi is at place own; of its n columns the first is `begin`, that element is at place t and its factor in x at place u
-pub record RowAt (uplo : UpLo) (vx va : View) (i own u t begin n : ℕ) : Type 0 where
-  pub row : i < va .rows
-  pub starts : begin ≡ firstCol uplo i
-  pub ends : begin + n ≡ endCol uplo i (va .cols)
-  pub weight : own ≡ index vx i 0
-  pub factor : u ≡ index vx begin 0
-  pub target : t ≡ index va i begin
-
 -- syr2k and her2k: the factors have the target's rows and the terms, or the terms and the target's columns
 pub record Factors (plan : Plan) (la lb : ℕ) : Type 0 where
   pub left-a : Sized (plan .«left_a») la (plan .target .rows) (plan .terms)
@@ -53,3 +41,12 @@ pub record Entry (plan : Plan) (la lb i j : ℕ) : Type 0 where
   pub factors : Factors plan la lb
   pub row : i < plan .target .rows
   pub col : j < plan .target .cols
+
+-- columns `first` to before `end` of row i of the target, among the eight columns from `from` on
+pub record Block (plan : Plan) (la lb lc i from first end : ℕ) : Type 0 where
+  pub paired : Paired plan la lb lc
+  pub row : i < plan .target .rows
+  pub eight : from + 8 ≤ plan .target .cols
+  pub begins : from ≤ first
+  pub ordered : first ≤ end
+  pub ends : end ≤ from + 8

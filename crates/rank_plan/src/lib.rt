@@ -1,4 +1,4 @@
-// What the rank updates share for every number kind: the plan of two matrices, and the step along a row.
+// What the rank updates share for every number kind: the plan of two matrices.
 // Translated from control-rs; NOTICE names the source.
 
 mod plan;
@@ -6,5 +6,4 @@ mod plan;
 pub use plan::Plan;
 pub use plan::Readings;
 pub use plan::her2k_plan;
-pub use plan::step_of;
 pub use plan::syr2k_plan;

@@ -1,8 +1,6 @@
-// The plan of two matrices, and the step of a loop: the same for every number kind.
+// The plan of two matrices: the same for every number kind.
 
 ghost use mathlib.Core.Path.{_≡_};
-ghost use Prim.Native.Nat.{_≤_};
-ghost use Rattle.view.specs.Refusals.{limit};
 ghost use Rattle.rank_plan.specs.Plan.{syrReadings, herReadings, pairedPlan, syr2kPlan, her2kPlan};
 use view::Trans;
 use view::UpLo;
@@ -10,14 +8,6 @@ use view::View;
 use view::conjugates;
 use view::op_cols;
 use view::op_view;
-
-// 1, for a number within the limit. The compiler does not know it to be 1: a loop that steps by it is not unrolled, which serves short rows.
-pub fn step_of(n: usize) -> usize
-    requires { ⌜ n ≤ limit ⌝ }
-    ensures { λ r. ⌜ r ≡ 1 ⌝ }
-{
-    1 + n / 128
-}
 
 // How the left and the right factor of a product are read.
 pub struct Readings {

@@ -2,21 +2,21 @@
 // Translated from control-rs; NOTICE names the source.
 
 ghost use mathlib.Core.Path.{_≡_};
-ghost use Prim.Native.Nat.{_<_};
+ghost use Prim.Native.Nat.{_<_, _≤_, _+_};
 ghost use Rattle.number.specs.Kind.{real64};
 ghost use Rattle.number.specs.Scaling.{scaleBy64};
-ghost use Rattle.view.specs.Place.{index};
 ghost use Rattle.view.specs.Triangle.{inTriangle};
 ghost use Rattle.slab.specs.Elem.{elem, lent, Within};
 ghost use Rattle.slab.specs.Update.{replaced, updateRow, update};
 ghost use Rattle.slab.specs.Run.{elemConj};
+ghost use Rattle.slab.specs.Eight.{Eight};
 ghost use Rattle.blas.specs.Outcome.{Gives};
 ghost use Rattle.blas.specs.Her;
 ghost use Rattle.blas.specs.Her2;
 ghost use Rattle.blas.specs.Her2k;
 ghost use Rattle.blas.specs.Syr2k;
-ghost use Rattle.rank_plan.specs.Change.{addOne, addTwo, pairAt, pairsAt, weighedAt, weighedsAt, syr2kChange, her2kChange};
-ghost use Rattle.rank_plan.specs.Ready.{One, Two, RowAt, Entry, Paired};
+ghost use Rattle.rank_plan.specs.Change.{addOne, addTwo, pairAt, pairsAt, weighedAt, weighedsAt, syr2kChange, her2kChange, updateColumns};
+ghost use Rattle.rank_plan.specs.Ready.{One, Two, Entry, Paired, Block};
 use judge::check_her;
 use judge::check_her2;
 use judge::check_her2k;
@@ -28,25 +28,23 @@ use number::Beta64;
 use number::Real64;
 use rank_plan::Plan;
 use rank_plan::her2k_plan;
-use rank_plan::step_of;
 use rank_plan::syr2k_plan;
+use slab::add_eight64;
+use slab::block_end;
+use slab::block_start;
 use slab::elem64;
 use slab::get64;
 use slab::put64;
-use std::num::wrapping_add_usize;
 use view::Answer;
 use view::Trans;
 use view::UpLo;
 use view::View;
-use view::col_step;
 use view::cols;
 use view::column;
-use view::diagonal_step;
 use view::end_col;
 use view::first_col;
 use view::passed;
 use view::place;
-use view::row_step;
 use view::rows;
 
 // Element (i, j) of a matrix, conjugated where asked.
@@ -58,124 +56,28 @@ fn read(conj: bool, s: &[f64], v: View, i: usize, j: usize) -> Real64
     if conj { x.conj() } else { x }
 }
 
-// Element (i, j) of her's target, at place t, where w is alpha·xi and xj is at place u.
-fn her_entry(
-    w: Real64,
-    x: &[f64],
-    vx: View,
-    u: usize,
-    a: &mut [f64],
-    va: View,
-    t: usize,
-    i: usize,
-    j: usize,
-)
-    requires { ⌜ Within vx (real64 .count (now x)) j 0 × Within va (real64 .count (now a)) i j × (u ≡ index vx j 0) × (t ≡ index va i j) ⌝ }
+// Element (i, j) of her's target, where w is alpha·xi.
+fn her_entry(w: Real64, x: &[f64], vx: View, a: &mut [f64], va: View, i: usize, j: usize)
+    requires { ⌜ Within vx (real64 .count (now x)) j 0 × Within va (real64 .count (now a)) i j ⌝ }
     ensures { λ _. ⌜ now (a .exit) ≡ replaced real64 va i j (addOne real64 (w .0) (elem real64 (now (x .entry)) vx) j) (now (a .entry)) ⌝ }
 {
+    let t = place(va, i, j);
     let old = get64(a, t);
-    let term = w.mul(get64(x, u).conj());
+    let term = w.mul(elem64(x, vx, j, 0).conj());
     put64(a, t, old.add(term));
 }
 
-// Row i of her's target, by a step of 1: xi is at place `own`, the row's first element at t and its factor in x at u.
-fn her_row(
-    uplo: UpLo,
-    alpha: f64,
-    x: &[f64],
-    vx: View,
-    own: usize,
-    u: usize,
-    a: &mut [f64],
-    va: View,
-    t: usize,
-    i: usize,
-    begin: usize,
-    n: usize,
-    one: usize,
-)
-    requires { ⌜ One vx (real64 .count (now x)) va (real64 .count (now a)) × RowAt uplo vx va i own u t begin n × (one ≡ 1) ⌝ }
+// Row i of her's target, which has as many columns as rows.
+fn her_row(uplo: UpLo, alpha: f64, x: &[f64], vx: View, a: &mut [f64], va: View, i: usize)
+    requires { ⌜ One vx (real64 .count (now x)) va (real64 .count (now a)) × (i < va .rows) ⌝ }
     ensures { λ _. ⌜ now (a .exit) ≡ updateRow real64 va (inTriangle uplo) (Her.herChange real64 alpha (elem real64 (now (x .entry)) vx)) i (va .cols) (now (a .entry)) ⌝ }
 {
-    let w = get64(x, own).scale_real(alpha);
-    let along = col_step(va);
-    let down = row_step(vx);
-    let mut at = t;
-    let mut by = u;
-    let mut j = 0;
-    while j < n {
-        her_entry(w, x, vx, by, a, va, at, i, begin + j);
-        at = wrapping_add_usize(at, along);
-        by = wrapping_add_usize(by, down);
-        j += one;
-    }
-}
-
-// The upper triangle of her's target, by rows from the diagonal on; x is a column.
-fn her_upper(alpha: f64, x: &[f64], vx: View, a: &mut [f64], va: View)
-    requires { ⌜ One vx (real64 .count (now x)) va (real64 .count (now a)) ⌝ }
-    ensures { λ _. ⌜ now (a .exit) ≡ update real64 va (inTriangle UpLo.Upper) (Her.herChange real64 alpha (elem real64 (now (x .entry)) vx)) (now (a .entry)) ⌝ }
-{
-    let one = step_of(va.rows);
-    let m = rows(va);
-    let down = row_step(vx);
-    let diagonal = diagonal_step(va);
-    let mut own = vx.start;
-    let mut t = va.start;
-    let mut i = 0;
-    while i < m {
-        her_row(
-            UpLo::Upper,
-            alpha,
-            x,
-            vx,
-            own,
-            own,
-            a,
-            va,
-            t,
-            i,
-            i,
-            m - i,
-            one,
-        );
-        own = wrapping_add_usize(own, down);
-        t = wrapping_add_usize(t, diagonal);
-        i += 1;
-    }
-}
-
-// The lower triangle of her's target, by rows up to the diagonal; x is a column.
-fn her_lower(alpha: f64, x: &[f64], vx: View, a: &mut [f64], va: View)
-    requires { ⌜ One vx (real64 .count (now x)) va (real64 .count (now a)) ⌝ }
-    ensures { λ _. ⌜ now (a .exit) ≡ update real64 va (inTriangle UpLo.Lower) (Her.herChange real64 alpha (elem real64 (now (x .entry)) vx)) (now (a .entry)) ⌝ }
-{
-    let one = step_of(va.rows);
-    let m = rows(va);
-    let down = row_step(vx);
-    let fall = row_step(va);
-    let mut own = vx.start;
-    let mut t = va.start;
-    let mut i = 0;
-    while i < m {
-        her_row(
-            UpLo::Lower,
-            alpha,
-            x,
-            vx,
-            own,
-            vx.start,
-            a,
-            va,
-            t,
-            i,
-            0,
-            i + 1,
-            one,
-        );
-        own = wrapping_add_usize(own, down);
-        t = wrapping_add_usize(t, fall);
-        i += 1;
+    let w = elem64(x, vx, i, 0).scale_real(alpha);
+    let end = end_col(uplo, i, rows(va));
+    let mut j = first_col(uplo, i);
+    while j < end {
+        her_entry(w, x, vx, a, va, i, j);
+        j += 1;
     }
 }
 
@@ -184,153 +86,60 @@ fn her_rows(uplo: UpLo, alpha: f64, x: &[f64], vx: View, a: &mut [f64], va: View
     requires { ⌜ One vx (real64 .count (now x)) va (real64 .count (now a)) ⌝ }
     ensures { λ _. ⌜ now (a .exit) ≡ update real64 va (inTriangle uplo) (Her.herChange real64 alpha (elem real64 (now (x .entry)) vx)) (now (a .entry)) ⌝ }
 {
-    match uplo {
-        UpLo::Upper => her_upper(alpha, x, vx, a, va),
-        UpLo::Lower => her_lower(alpha, x, vx, a, va),
+    let m = rows(va);
+    let mut i = 0;
+    while i < m {
+        her_row(uplo, alpha, x, vx, a, va, i);
+        i += 1;
     }
 }
 
-// Element (i, j) of her2's target, at place t, where w is alpha·xi and w2 is conj(alpha)·yi, xj is at place u and yj at place z.
+// Element (i, j) of her2's target, where w is alpha·xi and w2 is conj(alpha)·yi.
 fn her2_entry(
     w: Real64,
     w2: Real64,
     x: &[f64],
     vx: View,
-    u: usize,
     y: &[f64],
     vy: View,
-    z: usize,
     a: &mut [f64],
     va: View,
-    t: usize,
     i: usize,
     j: usize,
 )
-    requires { ⌜ Within vx (real64 .count (now x)) j 0 × Within vy (real64 .count (now y)) j 0 × Within va (real64 .count (now a)) i j × (u ≡ index vx j 0) × (z ≡ index vy j 0) × (t ≡ index va i j) ⌝ }
+    requires { ⌜ Within vx (real64 .count (now x)) j 0 × Within vy (real64 .count (now y)) j 0 × Within va (real64 .count (now a)) i j ⌝ }
     ensures { λ _. ⌜ now (a .exit) ≡ replaced real64 va i j (addTwo real64 (w .0) (w2 .0) (elem real64 (now (x .entry)) vx) (elem real64 (now (y .entry)) vy) j) (now (a .entry)) ⌝ }
 {
+    let t = place(va, i, j);
     let old = get64(a, t);
-    let first = w.mul(get64(y, z).conj());
-    let second = w2.mul(get64(x, u).conj());
+    let first = w.mul(elem64(y, vy, j, 0).conj());
+    let second = w2.mul(elem64(x, vx, j, 0).conj());
     put64(a, t, old.add(first).add(second));
 }
 
-// Row i of her2's target: xi and yi are at places `ownx` and `owny`, the row's first element at t and its factors in x and y at u and z.
+// Row i of her2's target.
 fn her2_row(
     uplo: UpLo,
     alpha: Real64,
     x: &[f64],
     vx: View,
-    ownx: usize,
-    u: usize,
     y: &[f64],
     vy: View,
-    owny: usize,
-    z: usize,
     a: &mut [f64],
     va: View,
-    t: usize,
     i: usize,
-    begin: usize,
-    n: usize,
 )
-    requires { ⌜ Two vx (real64 .count (now x)) vy (real64 .count (now y)) va (real64 .count (now a)) × RowAt uplo vx va i ownx u t begin n × RowAt uplo vy va i owny z t begin n ⌝ }
+    requires { ⌜ Two vx (real64 .count (now x)) vy (real64 .count (now y)) va (real64 .count (now a)) × (i < va .rows) ⌝ }
     ensures { λ _. ⌜ now (a .exit) ≡ updateRow real64 va (inTriangle uplo) (Her2.her2Change real64 (alpha .0) (elem real64 (now (x .entry)) vx) (elem real64 (now (y .entry)) vy)) i (va .cols) (now (a .entry)) ⌝ }
 {
-    let w = alpha.mul(get64(x, ownx));
+    let w = alpha.mul(elem64(x, vx, i, 0));
     let conjugate = alpha.conj();
-    let w2 = conjugate.mul(get64(y, owny));
-    let along = col_step(va);
-    let downx = row_step(vx);
-    let downy = row_step(vy);
-    let mut at = t;
-    let mut byx = u;
-    let mut byy = z;
-    let mut j = 0;
-    while j < n {
-        her2_entry(w, w2, x, vx, byx, y, vy, byy, a, va, at, i, begin + j);
-        at = wrapping_add_usize(at, along);
-        byx = wrapping_add_usize(byx, downx);
-        byy = wrapping_add_usize(byy, downy);
+    let w2 = conjugate.mul(elem64(y, vy, i, 0));
+    let end = end_col(uplo, i, cols(va));
+    let mut j = first_col(uplo, i);
+    while j < end {
+        her2_entry(w, w2, x, vx, y, vy, a, va, i, j);
         j += 1;
-    }
-}
-
-// The upper triangle of her2's target, by rows from the diagonal on; x and y are columns.
-fn her2_upper(alpha: Real64, x: &[f64], vx: View, y: &[f64], vy: View, a: &mut [f64], va: View)
-    requires { ⌜ Two vx (real64 .count (now x)) vy (real64 .count (now y)) va (real64 .count (now a)) ⌝ }
-    ensures { λ _. ⌜ now (a .exit) ≡ update real64 va (inTriangle UpLo.Upper) (Her2.her2Change real64 (alpha .0) (elem real64 (now (x .entry)) vx) (elem real64 (now (y .entry)) vy)) (now (a .entry)) ⌝ }
-{
-    let m = rows(va);
-    let downx = row_step(vx);
-    let downy = row_step(vy);
-    let diagonal = diagonal_step(va);
-    let mut ownx = vx.start;
-    let mut owny = vy.start;
-    let mut t = va.start;
-    let mut i = 0;
-    while i < m {
-        her2_row(
-            UpLo::Upper,
-            alpha,
-            x,
-            vx,
-            ownx,
-            ownx,
-            y,
-            vy,
-            owny,
-            owny,
-            a,
-            va,
-            t,
-            i,
-            i,
-            m - i,
-        );
-        ownx = wrapping_add_usize(ownx, downx);
-        owny = wrapping_add_usize(owny, downy);
-        t = wrapping_add_usize(t, diagonal);
-        i += 1;
-    }
-}
-
-// The lower triangle of her2's target, by rows up to the diagonal; x and y are columns.
-fn her2_lower(alpha: Real64, x: &[f64], vx: View, y: &[f64], vy: View, a: &mut [f64], va: View)
-    requires { ⌜ Two vx (real64 .count (now x)) vy (real64 .count (now y)) va (real64 .count (now a)) ⌝ }
-    ensures { λ _. ⌜ now (a .exit) ≡ update real64 va (inTriangle UpLo.Lower) (Her2.her2Change real64 (alpha .0) (elem real64 (now (x .entry)) vx) (elem real64 (now (y .entry)) vy)) (now (a .entry)) ⌝ }
-{
-    let m = rows(va);
-    let downx = row_step(vx);
-    let downy = row_step(vy);
-    let fall = row_step(va);
-    let mut ownx = vx.start;
-    let mut owny = vy.start;
-    let mut t = va.start;
-    let mut i = 0;
-    while i < m {
-        her2_row(
-            UpLo::Lower,
-            alpha,
-            x,
-            vx,
-            ownx,
-            vx.start,
-            y,
-            vy,
-            owny,
-            vy.start,
-            a,
-            va,
-            t,
-            i,
-            0,
-            i + 1,
-        );
-        ownx = wrapping_add_usize(ownx, downx);
-        owny = wrapping_add_usize(owny, downy);
-        t = wrapping_add_usize(t, fall);
-        i += 1;
     }
 }
 
@@ -348,9 +157,11 @@ fn her2_rows(
     requires { ⌜ Two vx (real64 .count (now x)) vy (real64 .count (now y)) va (real64 .count (now a)) ⌝ }
     ensures { λ _. ⌜ now (a .exit) ≡ update real64 va (inTriangle uplo) (Her2.her2Change real64 (alpha .0) (elem real64 (now (x .entry)) vx) (elem real64 (now (y .entry)) vy)) (now (a .entry)) ⌝ }
 {
-    match uplo {
-        UpLo::Upper => her2_upper(alpha, x, vx, y, vy, a, va),
-        UpLo::Lower => her2_lower(alpha, x, vx, y, vy, a, va),
+    let m = rows(va);
+    let mut i = 0;
+    while i < m {
+        her2_row(uplo, alpha, x, vx, y, vy, a, va, i);
+        i += 1;
     }
 }
 
@@ -419,6 +230,16 @@ fn weighed_sum(alpha: Real64, plan: Plan, a: &[f64], b: &[f64], i: usize, j: usi
     sum
 }
 
+// Element (i, j) of the target becomes what beta makes of it, plus a number.
+fn settle(beta: Beta64, more: Real64, c: &mut [f64], v: View, i: usize, j: usize)
+    requires { ⌜ Within v (real64 .count (now c)) i j ⌝ }
+    ensures { λ _. ⌜ now (c .exit) ≡ replaced real64 v i j (λ old. real64 .add (scaleBy64 beta old) (more .0)) (now (c .entry)) ⌝ }
+{
+    let k = place(v, i, j);
+    let old = beta.scale(get64(c, k));
+    put64(c, k, old.add(more));
+}
+
 // Element (i, j) of syr2k's target.
 fn syr2k_entry(
     alpha: Real64,
@@ -433,10 +254,8 @@ fn syr2k_entry(
     requires { ⌜ Entry plan (real64 .count (now a)) (real64 .count (now b)) i j × Within (plan .target) (real64 .count (now c)) i j ⌝ }
     ensures { λ _. ⌜ now (c .exit) ≡ replaced real64 (plan .target) i j (syr2kChange real64 plan (now (a .entry)) (now (b .entry)) (alpha .0) (scaleBy64 beta) i j) (now (c .entry)) ⌝ }
 {
-    let k = place(plan.target, i, j);
-    let old = beta.scale(get64(c, k));
     let sum = pair_sum(plan, a, b, i, j);
-    put64(c, k, old.add(alpha.mul(sum)));
+    settle(beta, alpha.mul(sum), c, plan.target, i, j);
 }
 
 // Row i of syr2k's target.
@@ -480,10 +299,8 @@ fn her2k_entry(
     requires { ⌜ Entry plan (real64 .count (now a)) (real64 .count (now b)) i j × Within (plan .target) (real64 .count (now c)) i j ⌝ }
     ensures { λ _. ⌜ now (c .exit) ≡ replaced real64 (plan .target) i j (her2kChange real64 plan (now (a .entry)) (now (b .entry)) (alpha .0) (scaleBy64 beta) i j) (now (c .entry)) ⌝ }
 {
-    let k = place(plan.target, i, j);
-    let old = beta.scale(get64(c, k));
     let sum = weighed_sum(alpha, plan, a, b, i, j);
-    put64(c, k, old.add(sum));
+    settle(beta, sum, c, plan.target, i, j);
 }
 
 // Row i of her2k's target.
@@ -510,6 +327,251 @@ fn her2k_rows(alpha: Real64, beta: Beta64, plan: Plan, a: &[f64], b: &[f64], c: 
     while i < m {
         her2k_row(alpha, beta, plan, a, b, c, i);
         i += 1;
+    }
+}
+
+// Each of eight sums plus x times an element of B and then y times an element of A, those of row p from column j on.
+fn add_both(
+    x: Real64,
+    b: &[f64],
+    vb: View,
+    y: Real64,
+    a: &[f64],
+    va: View,
+    p: usize,
+    j: usize,
+    sums: [f64; 8],
+) -> [f64; 8]
+    requires { ⌜ Within vb (real64 .count (now b)) p (j + 7) × Within va (real64 .count (now a)) p (j + 7) ⌝ }
+    ensures { λ r. ⌜ Eight real64 r (λ t. real64 .add (real64 .add (real64 .at sums t) (real64 .mul (x .0) (elem real64 (now (b .entry)) vb p (j + t)))) (real64 .mul (y .0) (elem real64 (now (a .entry)) va p (j + t)))) ⌝ }
+{
+    let first = add_eight64(x, b, vb, p, j, sums);
+    add_eight64(y, a, va, p, j, first)
+}
+
+// Each of eight sums, those of the columns from j on, with the two products at p added one after the other.
+fn add_pairs(
+    plan: Plan,
+    a: &[f64],
+    b: &[f64],
+    p: usize,
+    i: usize,
+    j: usize,
+    sums: [f64; 8],
+) -> [f64; 8]
+    requires { ⌜ Entry plan (real64 .count (now a)) (real64 .count (now b)) i (j + 7) × (p < plan .terms) ⌝ }
+    ensures { λ r. ⌜ Eight real64 r (λ t. pairAt real64 plan (now (a .entry)) (now (b .entry)) i (j + t) p (real64 .at sums t)) ⌝ }
+{
+    let left = plan.left_conj;
+    let x = read(left, a, plan.left_a, i, p);
+    let y = read(left, b, plan.left_b, i, p);
+    add_both(x, b, plan.right_b, y, a, plan.right_a, p, j, sums)
+}
+
+// The sums of all pairs of products for the eight elements of row i from column j on.
+fn pair_sums(plan: Plan, a: &[f64], b: &[f64], i: usize, j: usize) -> [f64; 8]
+    requires { ⌜ Entry plan (real64 .count (now a)) (real64 .count (now b)) i (j + 7) ⌝ }
+    ensures { λ r. ⌜ Eight real64 r (λ t. pairsAt real64 plan (now (a .entry)) (now (b .entry)) i (j + t) (plan .terms)) ⌝ }
+{
+    let n = plan.terms;
+    let mut sums = [0.0; 8];
+    let mut p = 0;
+    while p < n {
+        let next = add_pairs(plan, a, b, p, i, j, sums);
+        sums = next;
+        p += 1;
+    }
+    sums
+}
+
+// The same with the left factors weighed by alpha and by its conjugate.
+fn add_weigheds(
+    alpha: Real64,
+    plan: Plan,
+    a: &[f64],
+    b: &[f64],
+    p: usize,
+    i: usize,
+    j: usize,
+    sums: [f64; 8],
+) -> [f64; 8]
+    requires { ⌜ Entry plan (real64 .count (now a)) (real64 .count (now b)) i (j + 7) × (p < plan .terms) ⌝ }
+    ensures { λ r. ⌜ Eight real64 r (λ t. weighedAt real64 plan (now (a .entry)) (now (b .entry)) (alpha .0) i (j + t) p (real64 .at sums t)) ⌝ }
+{
+    let left = plan.left_conj;
+    let x = alpha.mul(read(left, a, plan.left_a, i, p));
+    let y = alpha.conj().mul(read(left, b, plan.left_b, i, p));
+    add_both(x, b, plan.right_b, y, a, plan.right_a, p, j, sums)
+}
+
+// The sums of all of them.
+fn weighed_sums(alpha: Real64, plan: Plan, a: &[f64], b: &[f64], i: usize, j: usize) -> [f64; 8]
+    requires { ⌜ Entry plan (real64 .count (now a)) (real64 .count (now b)) i (j + 7) ⌝ }
+    ensures { λ r. ⌜ Eight real64 r (λ t. weighedsAt real64 plan (now (a .entry)) (now (b .entry)) (alpha .0) i (j + t) (plan .terms)) ⌝ }
+{
+    let n = plan.terms;
+    let mut sums = [0.0; 8];
+    let mut p = 0;
+    while p < n {
+        let next = add_weigheds(alpha, plan, a, b, p, i, j, sums);
+        sums = next;
+        p += 1;
+    }
+    sums
+}
+
+// Columns first to before end of row i of syr2k's target, which are among the eight columns from `from` on.
+fn syr2k_block(
+    alpha: Real64,
+    beta: Beta64,
+    plan: Plan,
+    a: &[f64],
+    b: &[f64],
+    c: &mut [f64],
+    i: usize,
+    from: usize,
+    first: usize,
+    end: usize,
+)
+    requires { ⌜ Block plan (real64 .count (now a)) (real64 .count (now b)) (real64 .count (now c)) i from first end ⌝ }
+    ensures { λ _. ⌜ now (c .exit) ≡ updateColumns real64 (plan .target) (syr2kChange real64 plan (now (a .entry)) (now (b .entry)) (alpha .0) (scaleBy64 beta)) i first end (now (c .entry)) ⌝ }
+{
+    let sums = pair_sums(plan, a, b, i, from);
+    let mut j = first;
+    while j < end {
+        settle(
+            beta,
+            alpha.mul(Real64(sums[j - from])),
+            c,
+            plan.target,
+            i,
+            j,
+        );
+        j += 1;
+    }
+}
+
+// Row i of syr2k's target of at least eight columns.
+fn syr2k_wide_row(
+    alpha: Real64,
+    beta: Beta64,
+    plan: Plan,
+    a: &[f64],
+    b: &[f64],
+    c: &mut [f64],
+    i: usize,
+)
+    requires { ⌜ Paired plan (real64 .count (now a)) (real64 .count (now b)) (real64 .count (now c)) × (i < plan .target .rows) × (8 ≤ plan .target .cols) ⌝ }
+    ensures { λ _. ⌜ now (c .exit) ≡ updateRow real64 (plan .target) (inTriangle (plan .uplo)) (syr2kChange real64 plan (now (a .entry)) (now (b .entry)) (alpha .0) (scaleBy64 beta)) i (plan .target .cols) (now (c .entry)) ⌝ }
+{
+    let uplo = plan.uplo;
+    let n = cols(plan.target);
+    let end = end_col(uplo, i, n);
+    let mut j = first_col(uplo, i);
+    while j < end {
+        let from = block_start(j, n);
+        let stop = block_end(from, end);
+        syr2k_block(alpha, beta, plan, a, b, c, i, from, j, stop);
+        j = stop;
+    }
+}
+
+// The whole of syr2k's target of at least eight columns.
+fn syr2k_wide(alpha: Real64, beta: Beta64, plan: Plan, a: &[f64], b: &[f64], c: &mut [f64])
+    requires { ⌜ Paired plan (real64 .count (now a)) (real64 .count (now b)) (real64 .count (now c)) × (8 ≤ plan .target .cols) ⌝ }
+    ensures { λ _. ⌜ now (c .exit) ≡ update real64 (plan .target) (inTriangle (plan .uplo)) (syr2kChange real64 plan (now (a .entry)) (now (b .entry)) (alpha .0) (scaleBy64 beta)) (now (c .entry)) ⌝ }
+{
+    let m = rows(plan.target);
+    let mut i = 0;
+    while i < m {
+        syr2k_wide_row(alpha, beta, plan, a, b, c, i);
+        i += 1;
+    }
+}
+
+// syr2k's target, of however many columns.
+fn syr2k_target(alpha: Real64, beta: Beta64, plan: Plan, a: &[f64], b: &[f64], c: &mut [f64])
+    requires { ⌜ Paired plan (real64 .count (now a)) (real64 .count (now b)) (real64 .count (now c)) ⌝ }
+    ensures { λ _. ⌜ now (c .exit) ≡ update real64 (plan .target) (inTriangle (plan .uplo)) (syr2kChange real64 plan (now (a .entry)) (now (b .entry)) (alpha .0) (scaleBy64 beta)) (now (c .entry)) ⌝ }
+{
+    if 8 <= cols(plan.target) {
+        syr2k_wide(alpha, beta, plan, a, b, c);
+    } else {
+        syr2k_rows(alpha, beta, plan, a, b, c);
+    }
+}
+
+// Columns first to before end of row i of her2k's target, which are among the eight columns from `from` on.
+fn her2k_block(
+    alpha: Real64,
+    beta: Beta64,
+    plan: Plan,
+    a: &[f64],
+    b: &[f64],
+    c: &mut [f64],
+    i: usize,
+    from: usize,
+    first: usize,
+    end: usize,
+)
+    requires { ⌜ Block plan (real64 .count (now a)) (real64 .count (now b)) (real64 .count (now c)) i from first end ⌝ }
+    ensures { λ _. ⌜ now (c .exit) ≡ updateColumns real64 (plan .target) (her2kChange real64 plan (now (a .entry)) (now (b .entry)) (alpha .0) (scaleBy64 beta)) i first end (now (c .entry)) ⌝ }
+{
+    let sums = weighed_sums(alpha, plan, a, b, i, from);
+    let mut j = first;
+    while j < end {
+        settle(beta, Real64(sums[j - from]), c, plan.target, i, j);
+        j += 1;
+    }
+}
+
+// Row i of her2k's target of at least eight columns.
+fn her2k_wide_row(
+    alpha: Real64,
+    beta: Beta64,
+    plan: Plan,
+    a: &[f64],
+    b: &[f64],
+    c: &mut [f64],
+    i: usize,
+)
+    requires { ⌜ Paired plan (real64 .count (now a)) (real64 .count (now b)) (real64 .count (now c)) × (i < plan .target .rows) × (8 ≤ plan .target .cols) ⌝ }
+    ensures { λ _. ⌜ now (c .exit) ≡ updateRow real64 (plan .target) (inTriangle (plan .uplo)) (her2kChange real64 plan (now (a .entry)) (now (b .entry)) (alpha .0) (scaleBy64 beta)) i (plan .target .cols) (now (c .entry)) ⌝ }
+{
+    let uplo = plan.uplo;
+    let n = cols(plan.target);
+    let end = end_col(uplo, i, n);
+    let mut j = first_col(uplo, i);
+    while j < end {
+        let from = block_start(j, n);
+        let stop = block_end(from, end);
+        her2k_block(alpha, beta, plan, a, b, c, i, from, j, stop);
+        j = stop;
+    }
+}
+
+// The whole of her2k's target of at least eight columns.
+fn her2k_wide(alpha: Real64, beta: Beta64, plan: Plan, a: &[f64], b: &[f64], c: &mut [f64])
+    requires { ⌜ Paired plan (real64 .count (now a)) (real64 .count (now b)) (real64 .count (now c)) × (8 ≤ plan .target .cols) ⌝ }
+    ensures { λ _. ⌜ now (c .exit) ≡ update real64 (plan .target) (inTriangle (plan .uplo)) (her2kChange real64 plan (now (a .entry)) (now (b .entry)) (alpha .0) (scaleBy64 beta)) (now (c .entry)) ⌝ }
+{
+    let m = rows(plan.target);
+    let mut i = 0;
+    while i < m {
+        her2k_wide_row(alpha, beta, plan, a, b, c, i);
+        i += 1;
+    }
+}
+
+// her2k's target, of however many columns.
+fn her2k_target(alpha: Real64, beta: Beta64, plan: Plan, a: &[f64], b: &[f64], c: &mut [f64])
+    requires { ⌜ Paired plan (real64 .count (now a)) (real64 .count (now b)) (real64 .count (now c)) ⌝ }
+    ensures { λ _. ⌜ now (c .exit) ≡ update real64 (plan .target) (inTriangle (plan .uplo)) (her2kChange real64 plan (now (a .entry)) (now (b .entry)) (alpha .0) (scaleBy64 beta)) (now (c .entry)) ⌝ }
+{
+    if 8 <= cols(plan.target) {
+        her2k_wide(alpha, beta, plan, a, b, c);
+    } else {
+        her2k_rows(alpha, beta, plan, a, b, c);
     }
 }
 
@@ -574,7 +636,7 @@ pub fn syr2k(
     let answer = check_syr2k(quick, trans, va, a.len(), vb, b.len(), vc, c.len());
     if passed(answer) {
         let plan = syr2k_plan(uplo, trans, va, vb, vc);
-        syr2k_rows(alpha, Beta64::judge(beta), plan, a, b, c);
+        syr2k_target(alpha, Beta64::judge(beta), plan, a, b, c);
     }
     answer
 }
@@ -598,7 +660,7 @@ pub fn her2k(
     let answer = check_her2k(quick, trans, va, a.len(), vb, b.len(), vc, c.len());
     if passed(answer) {
         let plan = her2k_plan(uplo, trans, va, vb, vc);
-        her2k_rows(alpha, Beta64::judge(Real64(beta)), plan, a, b, c);
+        her2k_target(alpha, Beta64::judge(Real64(beta)), plan, a, b, c);
     }
     answer
 }

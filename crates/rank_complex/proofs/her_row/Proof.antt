@@ -1,67 +1,68 @@
-use Prim.Native.Nat.{ℕ, _+_, _≤_, _-_, _/_}
-use mathlib.Core.Path.{_≡_, refl, ap, _∙_}
+use Prim.Native.Nat.{ℕ, _≤_, _-_, _/_}
+use mathlib.Core.Path.{_≡_, refl, sym, ap, _∙_}
 use native.Mathlib.Omega.{arith}
 use lib.ListN.{length}
 use denote.Ref.{now}
 use Rattle.number.specs.Kind.{complex}
 use Rattle.slab.specs.Elem.{elem}
-use Rattle.slab.proofs.Shown.{inside}
 use Rattle.blas.specs.Her.{herChange}
 use Rattle.rank_plan.specs.Change.{addOne}
-use Rattle.rank_plan.proofs.Inside.{column-shows}
-use Rattle.rank_plan.proofs.Rows.{span}
-use Rattle.rank_plan.proofs.Walks.{Along, along-lt, along-start, along-next, along-last, slab-start, slab-next, one-entry}
-use Rattle.rank_plan.proofs.Laws.{read-elem, her-same}
+use Rattle.rank_plan.proofs.Inside.{column-shows, one-shows}
+use Rattle.rank_plan.proofs.Rows.{span, span-start, span-next, span-last, row-lt, begins, column-lt}
+use Rattle.rank_plan.proofs.Laws.{her-same}
 use Rattle.rank_complex.proofs.her_row.Statement.{statement}
 use Rattle.rank_complex.proofs.her_row.Tie as tie
 
 abbrev Inv-loop : tie.InvT-loop
-Inv-loop alpha x vx own u a₀ va t i begin n w along down at₀ by₀ j₀ a at by j = (j ≤ n) × (length a ≡ length a₀) × Along vx va i begin n j by at × (a ≡ span complex va (λ r k. addOne complex w (elem complex x vx) k) i begin (begin + j) a₀)
+Inv-loop alpha x vx a₀ va i w end j₀ a j = (j₀ ≤ j) × (j ≤ end) × (length a ≡ length a₀) × (a ≡ span complex va (λ r k. addOne complex w (elem complex x vx) k) i j₀ j a₀)
 
 abbrev μ-loop : tie.MeasureT-loop
-μ-loop alpha x vx own u a₀ va t i begin n w along down at₀ by₀ j₀ a at by j = n - j
+μ-loop alpha x vx a₀ va i w end j₀ a j = end - j
 
-get-complex-requires : tie.Need-get-complex-requires Inv-loop μ-loop
-get-complex-requires c κs = let s = c .before .before in inside _ _ _ _ (column-shows _ _ _ (s .pre .0 .x) _ (s .pre .1 .row)) _ (s .pre .1 .weight)
+elem-complex-requires : tie.Need-elem-complex-requires Inv-loop μ-loop
+elem-complex-requires c κs = column-shows _ _ _ (c .before .before .pre .0 .x) _ (c .before .before .pre .1)
 
-scale-real-requires : tie.Need-scale-real-requires Inv-loop μ-loop
-scale-real-requires c κs = tt
-
-col-step-requires : tie.Need-col-step-requires Inv-loop μ-loop
-col-step-requires c κs = tt
-
-row-step-requires : tie.Need-row-step-requires Inv-loop μ-loop
-row-step-requires c κs = tt
+end-col-requires : tie.Need-end-col-requires Inv-loop μ-loop
+end-col-requires c κs = let s = c .before .before .before .before .before in row-lt _ _ (s .pre .0 .target) _ (s .pre .1) _ (c .rows .ensures ∙ sym (s .pre .0 .target .cols))
 
 loop-holds : tie.Need-loop-holds Inv-loop μ-loop
-loop-holds c = let s = c .before .before .before .before .before .before in (omega arith, refl, along-start (s .pre .0 .target) (s .pre .1), slab-start complex _ _ _ _ _)
-
-add-her-entry : tie.Need-add-her-entry Inv-loop μ-loop
-add-her-entry c = let s = c .before .before .before .before .before .before .before .before .before in omega (arith, s .pre .0 .target .fits .rows-le, along-lt (s .pre .0 .target) (s .pre .1) _ (c .before .loop-test .taken))
+loop-holds c =
+    let s = c .before .before .before .before .before .before .before in (
+      omega arith,
+      begins _ _ (s .pre .0 .target) _ (s .pre .1) _ (c .before .before .rows .ensures ∙ sym (s .pre .0 .target .cols)) (s .args .uplo) _ _ (c .before .end-col .ensures) (c .first-col .ensures),
+      refl,
+      span-start complex _ _ _ _ _,
+    )
 
 her-entry-requires : tie.Need-her-entry-requires Inv-loop μ-loop
-her-entry-requires c κs = let s = c .before .before .before .before .before .before .before .before .before in let l = c .before .before .loop in one-entry (ap (λ (n : ℕ). n / 2) (l .inv .1)) (c .before .loop-test .taken) (s .pre .1) (l .inv .2) (s .pre .0)
-
-wrapping-add-usize-requires : tie.Need-wrapping-add-usize-requires Inv-loop μ-loop
-wrapping-add-usize-requires c κs = tt
-
-wrapping-add-usize-requires-2 : tie.Need-wrapping-add-usize-requires-2 Inv-loop μ-loop
-wrapping-add-usize-requires-2 c κs = tt
-
-add-j : tie.Need-add-j Inv-loop μ-loop
-add-j c = omega arith
-
-loop-less : tie.Need-loop-less Inv-loop μ-loop
-loop-less c = omega arith
+her-entry-requires c κs =
+    let s = c .before .before .before .before .before .before .before .before .before .before in
+    one-shows _ _ _ _ _ (ap (λ (n : ℕ). n / 2) (c .before .before .loop .inv .2)) (s .pre .0) _ _ (s .pre .1)
+    (column-lt _ _ (s .pre .0 .target) _ (s .pre .1) _ (c .before .before .before .before .before .rows .ensures ∙ sym (s .pre .0 .target .cols)) (s .args .uplo) _ _ (c .before .before .before .before .end-col .ensures) (omega arith))
 
 loop-again : tie.Need-loop-again Inv-loop μ-loop
-loop-again c = let s = c .before .before .before .before .before .before .before .before .before .before .before .before .before .before in let l = c .before .before .before .before .before .before .before .loop in (omega arith, c .before .before .before .before .her-entry .kept .1 .1 .1 .1 .0 ∙ l .inv .1, along-next (s .pre .0 .target) (s .pre .1) (s .pre .0 .x) (omega arith) (omega arith) (c .before .before .before .before .before .before .before .before .row-step .ensures) (c .before .before .before .before .before .before .before .before .before .col-step .ensures) refl (l .inv .2) (c .wrapping-add-usize2 .ensures) (c .before .wrapping-add-usize .ensures), slab-next complex _ _ _ _ _ _ refl (l .inv .3) (c .before .before .before .before .her-entry .ensures))
-
-same-length : tie.Need-same-length Inv-loop μ-loop
-same-length c = c .before .loop .inv .1
+loop-again c =
+    let l = c .before .before .before .before .before .loop in (
+      omega arith,
+      omega arith,
+      c .before .before .her-entry .kept .1 .1 .1 .0 ∙ l .inv .2,
+      span-next complex _ _ _ _ _ _ _ _ (l .inv .0) (l .inv .3) (c .before .before .her-entry .ensures),
+    )
 
 returns : tie.Need-returns Inv-loop μ-loop
-returns c = let s = c .before .before .before .before .before .before .before .before in let p = s .args in let l = c .before .loop in along-last (s .pre .0 .target) (s .pre .1) complex (λ r k. addOne complex (c .before .before .before .before .scale-real .result) (elem complex (now (p .x)) (p .vx)) k) (herChange complex (p .alpha) (elem complex (now (p .x)) (p .vx))) _ _ (l .inv .0) (c .loop-test .left) (l .inv .3) (her-same complex (p .alpha) (elem complex (now (p .x)) (p .vx)) (p .i) _ (c .before .before .before .before .scale-real .ensures ∙ ap (complex .scaleReal (p .alpha)) (read-elem complex (now (p .x)) (p .vx) (p .i) 0 _ _ (s .pre .1 .weight) (c .before .before .before .before .before .get-complex .ensures))))
+returns c =
+    let s = c .before .before .before .before .before .before .before .before .before in
+    let p = s .args in
+    let l = c .before .loop in
+    span-last complex (p .va) (p .i) (p .uplo) (λ r k. addOne complex (c .before .before .before .before .before .scale-real .result) (elem complex (now (p .x)) (p .vx)) k) (herChange complex (p .alpha) (elem complex (now (p .x)) (p .vx))) _ _ _ _ _ _
+    (c .before .before .before .before .rows .ensures ∙ sym (s .pre .0 .target .cols))
+    (c .before .before .first-col .ensures)
+    (c .before .before .before .end-col .ensures)
+    (row-lt _ _ (s .pre .0 .target) _ (s .pre .1) _ (c .before .before .before .before .rows .ensures ∙ sym (s .pre .0 .target .cols)))
+    (l .inv .1)
+    (omega arith)
+    (l .inv .3)
+    (her-same complex (p .alpha) (elem complex (now (p .x)) (p .vx)) (p .i) _ (c .before .before .before .before .before .scale-real .ensures ∙ ap (complex .scaleReal (p .alpha)) (c .before .before .before .before .before .before .elem-complex .ensures)))
 
 pub her-row-spec : {M : Type 1} → statement M
 her-row-spec =
@@ -69,17 +70,15 @@ her-row-spec =
     (tie.spec
     Inv-loop
     μ-loop
-    get-complex-requires
-    scale-real-requires
-    col-step-requires
-    row-step-requires
+    elem-complex-requires
+    (λ c κs. tt)
+    (λ c κs. tt)
+    end-col-requires
+    (λ c κs. tt)
     loop-holds
-    add-her-entry
     her-entry-requires
-    wrapping-add-usize-requires
-    wrapping-add-usize-requires-2
-    add-j
-    loop-less
+    (λ c. omega arith)
+    (λ c. omega arith)
     loop-again
-    same-length
+    (λ c. c .before .loop .inv .2)
     returns)

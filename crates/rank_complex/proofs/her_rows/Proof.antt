@@ -1,40 +1,49 @@
-use borrow.Author.Needs.{needs}
+use Prim.Native.Nat.{ℕ, _≤_, _-_, _/_}
+use mathlib.Core.Path.{_≡_, refl, ap, _∙_}
+use native.Mathlib.Omega.{arith}
+use lib.ListN.{length}
+use Rattle.number.specs.Kind.{complex}
+use Rattle.view.specs.Triangle.{inTriangle}
+use Rattle.slab.specs.Elem.{elem}
+use Rattle.slab.specs.Update.{updateRows}
+use Rattle.slab.proofs.LoopLaws.{rows-next, rows-last}
+use Rattle.blas.specs.Her.{herChange}
+use Rattle.rank_plan.proofs.Inside.{one-kept}
 use Rattle.rank_complex.proofs.her_rows.Statement.{statement}
 use Rattle.rank_complex.proofs.her_rows.Tie as tie
 
-enum-told : tie.Need-enum-told
-enum-told c = search needs
+abbrev Inv-loop : tie.InvT-loop
+Inv-loop uplo alpha x vx a₀ va m i₀ a i = (i ≤ m) × (length a ≡ length a₀) × (a ≡ updateRows complex va (inTriangle uplo) (herChange complex alpha (elem complex x vx)) i a₀)
 
-her-upper-requires : tie.Need-her-upper-requires
-her-upper-requires c κs = search needs
+abbrev μ-loop : tie.MeasureT-loop
+μ-loop uplo alpha x vx a₀ va m i₀ a i = m - i
 
-enum-told-2 : tie.Need-enum-told-2
-enum-told-2 c = search needs
+loop-holds : tie.Need-loop-holds Inv-loop μ-loop
+unfolding updateRows
+loop-holds c = (omega arith, refl, refl)
 
-her-lower-requires : tie.Need-her-lower-requires
-her-lower-requires c κs = search needs
+her-row-requires : tie.Need-her-row-requires Inv-loop μ-loop
+her-row-requires c κs = (one-kept _ _ _ _ _ (ap (λ (n : ℕ). n / 2) (c .before .before .loop .inv .1)) (c .before .before .before .before .before .before .pre), omega (arith, c .before .before .before .rows .ensures))
 
-same-length : tie.Need-same-length
-same-length c = search needs
+loop-again : tie.Need-loop-again Inv-loop μ-loop
+loop-again c =
+    let l = c .before .before .before .before .before .loop in
+    (omega arith, c .before .before .her-row .kept .1 .1 .1 .1 .0 ∙ l .inv .1, rows-next _ _ _ _ _ _ _ _ (l .inv .2) (c .before .before .her-row .ensures))
 
-returns : tie.Need-returns
-returns c = rw (c .before .before .before .before .enum-told .given .1) (c .before .before .her-upper .ensures)
-
-same-length-2 : tie.Need-same-length-2
-same-length-2 c = search needs
-
-returns-2 : tie.Need-returns-2
-returns-2 c = rw (c .before .before .before .before .enum-told2 .given .1) (c .before .before .her-lower .ensures)
+returns : tie.Need-returns Inv-loop μ-loop
+returns c = let l = c .before .loop in rows-last _ _ _ _ _ _ _ _ (c .before .before .rows .ensures) (l .inv .0) (omega arith) (l .inv .2)
 
 pub her-rows-spec : {M : Type 1} → statement M
 her-rows-spec =
     tie.close
     (tie.spec
-    enum-told
-    her-upper-requires
-    enum-told-2
-    her-lower-requires
-    same-length
-    returns
-    same-length-2
-    returns-2)
+    Inv-loop
+    μ-loop
+    (λ c κs. tt)
+    loop-holds
+    her-row-requires
+    (λ c. omega arith)
+    (λ c. omega arith)
+    loop-again
+    (λ c. c .before .loop .inv .1)
+    returns)

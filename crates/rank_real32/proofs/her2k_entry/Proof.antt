@@ -1,48 +1,21 @@
-use mathlib.Core.Path.{_∙_}
-use native.Mathlib.Omega.{arith}
 use denote.Ref.{now}
 use borrow.Author.Needs.{needs}
 use Rattle.number.specs.Kind.{real32}
 use Rattle.number.specs.Scaling.{scaleBy32}
-use Rattle.rank_plan.specs.Change.{her2kChange}
-use Rattle.slab.proofs.Shown.{shown, inside}
-use Rattle.rank_plan.proofs.Laws.{put-replaced}
+use Rattle.rank_plan.proofs.Eights.{settled}
 use Rattle.rank_real32.proofs.her2k_entry.Statement.{statement}
 use Rattle.rank_real32.proofs.her2k_entry.Tie as tie
 
-place-requires : tie.Need-place-requires
-place-requires c κs = shown _ _ _ _ (c .before .before .before .pre .1) (omega arith)
-
-get32-requires : tie.Need-get32-requires
-get32-requires c κs = inside _ _ _ _ (c .before .before .before .before .before .pre .1) _ (c .before .place .ensures)
-
-scale-requires : tie.Need-scale-requires
-scale-requires c κs = tt
-
-weighed-sum-requires : tie.Need-weighed-sum-requires
-weighed-sum-requires c κs = search needs
-
-add-requires : tie.Need-add-requires
-add-requires c κs = tt
-
-put32-requires : tie.Need-put32-requires
-put32-requires c κs = inside _ _ _ _ (c .before .before .before .before .before .before .before .before .before .before .pre .1) _ (c .before .before .before .before .before .before .place .ensures)
-
-same-length : tie.Need-same-length
-same-length c = search needs
-
 returns : tie.Need-returns
-returns c = let p = c .before .before .before .before .before .before .before .before .before .before .before .before .before .args in put-replaced real32 (p .plan .target) (p .i) (p .j) (her2kChange real32 (p .plan) (now (p .a)) (now (p .b)) (p .alpha .0) (scaleBy32 (p .beta)) (p .i) (p .j)) (now (p .c)) _ _ _ _ (c .before .before .before .before .before .before .before .before .before .place .ensures) (c .before .before .before .before .before .before .before .get32 .ensures) (c .before .before .before .add .ensures ∙ (λ t. real32 .add (c .before .before .before .before .before .before .scale .ensures t) (c .before .before .before .before .before .weighed-sum .ensures t))) (c .before .before .put32 .ensures)
+returns c =
+    let p = c .before .before .before .before .before .before .before .before .args in
+    settled real32 (p .plan .target) (p .i) (p .j) (scaleBy32 (p .beta)) _ _ (now (p .c)) _ (c .before .before .before .before .weighed-sum .ensures) (c .before .before .settle .ensures)
 
 pub her2k-entry-spec : {M : Type 1} → statement M
 her2k-entry-spec =
     tie.close
     (tie.spec
-    place-requires
-    get32-requires
-    scale-requires
-    weighed-sum-requires
-    add-requires
-    put32-requires
-    same-length
+    (λ c κs. search needs)
+    (λ c κs. search needs)
+    (λ c. search needs)
     returns)

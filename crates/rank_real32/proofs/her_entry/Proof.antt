@@ -1,47 +1,43 @@
-use mathlib.Core.Path.{refl}
+use mathlib.Core.Path.{refl, ap, _∙_}
+use native.Mathlib.Omega.{arith}
 use denote.Ref.{now}
 use borrow.Author.Needs.{needs}
 use Rattle.number.specs.Kind.{real32}
 use Rattle.slab.specs.Elem.{elem}
-use Rattle.slab.proofs.Shown.{inside}
+use Rattle.slab.proofs.Shown.{shown, inside}
 use Rattle.rank_plan.specs.Change.{addOne}
-use Rattle.rank_plan.proofs.Laws.{put-replaced, read-conj, more}
+use Rattle.rank_plan.proofs.Laws.{put-replaced, more}
 use Rattle.rank_real32.proofs.her_entry.Statement.{statement}
 use Rattle.rank_real32.proofs.her_entry.Tie as tie
 
+place-requires : tie.Need-place-requires
+place-requires c κs = shown _ _ _ _ (c .before .before .pre .1) (omega arith)
+
 get32-requires : tie.Need-get32-requires
-get32-requires c κs = inside _ _ _ _ (c .before .before .before .pre .1) _ (c .before .before .before .pre .3)
-
-get32-requires-2 : tie.Need-get32-requires-2
-get32-requires-2 c κs = inside _ _ _ _ (c .before .before .before .before .pre .0) _ (c .before .before .before .before .pre .2)
-
-conj-requires : tie.Need-conj-requires
-conj-requires c κs = tt
-
-mul-requires : tie.Need-mul-requires
-mul-requires c κs = tt
-
-add-requires : tie.Need-add-requires
-add-requires c κs = tt
+get32-requires c κs = inside _ _ _ _ (c .before .before .before .before .pre .1) _ (c .before .place .ensures)
 
 put32-requires : tie.Need-put32-requires
-put32-requires c κs = inside _ _ _ _ (c .before .before .before .before .before .before .before .before .before .pre .1) _ (c .before .before .before .before .before .before .before .before .before .pre .3)
-
-same-length : tie.Need-same-length
-same-length c = search needs
+put32-requires c κs = inside _ _ _ _ (c .before .before .before .before .before .before .before .before .before .before .pre .1) _ (c .before .before .before .before .before .before .before .place .ensures)
 
 returns : tie.Need-returns
-returns c = let s = c .before .before .before .before .before .before .before .before .before .before .before .before in let p = s .args in put-replaced real32 (p .va) (p .i) (p .j) (addOne real32 (p .w .0) (elem real32 (now (p .x)) (p .vx)) (p .j)) (now (p .a)) _ _ _ _ (s .pre .3) (c .before .before .before .before .before .before .before .before .get32 .ensures) (more real32 _ _ _ _ _ _ _ refl (read-conj real32 (now (p .x)) (p .vx) (p .j) 0 _ _ (s .pre .2) (c .before .before .before .before .before .before .before .get322 .ensures) _ (c .before .before .before .before .before .before .conj .ensures)) (c .before .before .before .before .before .mul .ensures) (c .before .before .before .add .ensures)) (c .before .before .put32 .ensures)
+returns c =
+    let p = c .before .before .before .before .before .before .before .before .before .before .before .before .before .args in
+    put-replaced real32 (p .va) (p .i) (p .j) (addOne real32 (p .w .0) (elem real32 (now (p .x)) (p .vx)) (p .j)) (now (p .a)) _ _ _ _
+    (c .before .before .before .before .before .before .before .before .before .before .place .ensures)
+    (c .before .before .before .before .before .before .before .before .get32 .ensures)
+    (more real32 _ _ _ _ _ _ _ refl (c .before .before .before .before .before .before .conj .ensures ∙ ap (real32 .conj) (c .before .before .before .before .before .before .before .elem32 .ensures)) (c .before .before .before .before .before .mul .ensures) (c .before .before .before .add .ensures))
+    (c .before .before .put32 .ensures)
 
 pub her-entry-spec : {M : Type 1} → statement M
 her-entry-spec =
     tie.close
     (tie.spec
+    place-requires
     get32-requires
-    get32-requires-2
-    conj-requires
-    mul-requires
-    add-requires
+    (λ c κs. search needs)
+    (λ c κs. tt)
+    (λ c κs. tt)
+    (λ c κs. tt)
     put32-requires
-    same-length
+    (λ c. search needs)
     returns)

@@ -22,14 +22,14 @@ syr2k-plan-requires c κs = tt
 judge-requires : tie.Need-judge-requires
 judge-requires c κs = tt
 
-syr2k-rows-requires : tie.Need-syr2k-rows-requires
-syr2k-rows-requires c κs = syr2k-runs _ _ _ _ _ _ _ _ _ _ (c .before .before .before .before .before .check-syr2k .ensures) (c .before .before .before .before .passed .ensures) (c .before .before .before .if1 .taken) _ (c .before .before .syr2k-plan .ensures)
+syr2k-target-requires : tie.Need-syr2k-target-requires
+syr2k-target-requires c κs = syr2k-runs _ _ _ _ _ _ _ _ _ _ (c .before .before .before .before .before .check-syr2k .ensures) (c .before .before .before .before .passed .ensures) (c .before .before .before .if1 .taken) _ (c .before .before .syr2k-plan .ensures)
 
 same-length : tie.Need-same-length
 same-length c = search needs
 
 returns : tie.Need-returns
-returns c = syr2k-done real32 _ _ _ _ _ _ _ _ _ (c .before .before .before .before .before .before .before .before .check-syr2k .ensures) (c .before .before .before .before .before .before .before .passed .ensures) (c .before .before .before .before .before .before .if1 .taken) _ _ _ (ap scaleBy32 (c .before .before .before .before .judge .ensures) ∙ scale32 _) (c .before .before .before .before .before .syr2k-plan .ensures) (c .before .before .syr2k-rows .ensures)
+returns c = syr2k-done real32 _ _ _ _ _ _ _ _ _ (c .before .before .before .before .before .before .before .before .check-syr2k .ensures) (c .before .before .before .before .before .before .before .passed .ensures) (c .before .before .before .before .before .before .if1 .taken) _ _ _ (ap scaleBy32 (c .before .before .before .before .judge .ensures) ∙ scale32 _) (c .before .before .before .before .before .syr2k-plan .ensures) (c .before .before .syr2k-target .ensures)
 
 returns-2 : tie.Need-returns-2
 returns-2 c = syr2k-refused real32 _ _ _ _ _ _ _ _ _ (c .before .before .check-syr2k .ensures) (c .before .passed .ensures) (c .if1 .left)
@@ -43,7 +43,7 @@ syr2k-spec =
     passed-requires
     syr2k-plan-requires
     judge-requires
-    syr2k-rows-requires
+    syr2k-target-requires
     same-length
     returns
     returns-2)

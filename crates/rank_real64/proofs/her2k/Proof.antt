@@ -22,14 +22,14 @@ her2k-plan-requires c κs = tt
 judge-requires : tie.Need-judge-requires
 judge-requires c κs = tt
 
-her2k-rows-requires : tie.Need-her2k-rows-requires
-her2k-rows-requires c κs = her2k-runs _ _ _ _ _ _ _ _ _ _ (c .before .before .before .before .before .check-her2k .ensures) (c .before .before .before .before .passed .ensures) (c .before .before .before .if1 .taken) _ (c .before .before .her2k-plan .ensures)
+her2k-target-requires : tie.Need-her2k-target-requires
+her2k-target-requires c κs = her2k-runs _ _ _ _ _ _ _ _ _ _ (c .before .before .before .before .before .check-her2k .ensures) (c .before .before .before .before .passed .ensures) (c .before .before .before .if1 .taken) _ (c .before .before .her2k-plan .ensures)
 
 same-length : tie.Need-same-length
 same-length c = search needs
 
 returns : tie.Need-returns
-returns c = her2k-done real64 _ _ _ _ _ _ _ _ _ (c .before .before .before .before .before .before .before .before .check-her2k .ensures) (c .before .before .before .before .before .before .before .passed .ensures) (c .before .before .before .before .before .before .if1 .taken) _ _ _ (ap scaleBy64 (c .before .before .before .before .judge .ensures) ∙ scale64 _) (c .before .before .before .before .before .her2k-plan .ensures) (c .before .before .her2k-rows .ensures)
+returns c = her2k-done real64 _ _ _ _ _ _ _ _ _ (c .before .before .before .before .before .before .before .before .check-her2k .ensures) (c .before .before .before .before .before .before .before .passed .ensures) (c .before .before .before .before .before .before .if1 .taken) _ _ _ (ap scaleBy64 (c .before .before .before .before .judge .ensures) ∙ scale64 _) (c .before .before .before .before .before .her2k-plan .ensures) (c .before .before .her2k-target .ensures)
 
 returns-2 : tie.Need-returns-2
 returns-2 c = her2k-refused real64 _ _ _ _ _ _ _ _ _ (c .before .before .check-her2k .ensures) (c .before .passed .ensures) (c .if1 .left)
@@ -43,7 +43,7 @@ her2k-spec =
     passed-requires
     her2k-plan-requires
     judge-requires
-    her2k-rows-requires
+    her2k-target-requires
     same-length
     returns
     returns-2)

@@ -1,52 +1,25 @@
 use mathlib.Core.Path.{ap, _∙_}
-use native.Mathlib.Omega.{arith}
 use denote.Ref.{now}
 use borrow.Author.Needs.{needs}
 use Rattle.number.specs.Kind.{real64}
 use Rattle.number.specs.Scaling.{scaleBy64}
-use Rattle.rank_plan.specs.Change.{syr2kChange}
-use Rattle.slab.proofs.Shown.{shown, inside}
-use Rattle.rank_plan.proofs.Laws.{put-replaced}
+use Rattle.rank_plan.proofs.Eights.{settled}
 use Rattle.rank_real64.proofs.syr2k_entry.Statement.{statement}
 use Rattle.rank_real64.proofs.syr2k_entry.Tie as tie
 
-place-requires : tie.Need-place-requires
-place-requires c κs = shown _ _ _ _ (c .before .before .before .pre .1) (omega arith)
-
-get64-requires : tie.Need-get64-requires
-get64-requires c κs = inside _ _ _ _ (c .before .before .before .before .before .pre .1) _ (c .before .place .ensures)
-
-scale-requires : tie.Need-scale-requires
-scale-requires c κs = tt
-
-pair-sum-requires : tie.Need-pair-sum-requires
-pair-sum-requires c κs = search needs
-
-mul-requires : tie.Need-mul-requires
-mul-requires c κs = tt
-
-add-requires : tie.Need-add-requires
-add-requires c κs = tt
-
-put64-requires : tie.Need-put64-requires
-put64-requires c κs = inside _ _ _ _ (c .before .before .before .before .before .before .before .before .before .before .before .pre .1) _ (c .before .before .before .before .before .before .before .place .ensures)
-
-same-length : tie.Need-same-length
-same-length c = search needs
-
 returns : tie.Need-returns
-returns c = let p = c .before .before .before .before .before .before .before .before .before .before .before .before .before .before .args in put-replaced real64 (p .plan .target) (p .i) (p .j) (syr2kChange real64 (p .plan) (now (p .a)) (now (p .b)) (p .alpha .0) (scaleBy64 (p .beta)) (p .i) (p .j)) (now (p .c)) _ _ _ _ (c .before .before .before .before .before .before .before .before .before .before .place .ensures) (c .before .before .before .before .before .before .before .before .get64 .ensures) (c .before .before .before .add .ensures ∙ (λ t. real64 .add (c .before .before .before .before .before .before .before .scale .ensures t) ((c .before .before .before .before .mul .ensures ∙ ap (real64 .mul (p .alpha .0)) (c .before .before .before .before .before .before .pair-sum .ensures)) t))) (c .before .before .put64 .ensures)
+returns c =
+    let p = c .before .before .before .before .before .before .before .before .before .args in
+    settled real64 (p .plan .target) (p .i) (p .j) (scaleBy64 (p .beta)) _ _ (now (p .c)) _
+    (c .before .before .before .before .mul .ensures ∙ ap (real64 .mul (p .alpha .0)) (c .before .before .before .before .before .pair-sum .ensures))
+    (c .before .before .settle .ensures)
 
 pub syr2k-entry-spec : {M : Type 1} → statement M
 syr2k-entry-spec =
     tie.close
     (tie.spec
-    place-requires
-    get64-requires
-    scale-requires
-    pair-sum-requires
-    mul-requires
-    add-requires
-    put64-requires
-    same-length
+    (λ c κs. search needs)
+    (λ c κs. tt)
+    (λ c κs. search needs)
+    (λ c. search needs)
     returns)

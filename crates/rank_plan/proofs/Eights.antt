@@ -1,0 +1,139 @@
+-- Eight sums of pairs of products side by side, as a loop meets them, and the columns of a row that are settled from them.
+use Prim.Native.Nat.{ℕ, _+_, _-_, _^_, _≤_, _<_}
+use mathlib.Core.List.{List}
+use mathlib.Core.Path.{_≡_, refl, sym, ap, _∙_}
+use native.Mathlib.Omega.{arith}
+use lib.Ieee.{Float, Format, nan, ofBits}
+use lib.ListN.{replicate, length-replicate, getD-replicate}
+use lib.Dec.{leb}
+use borrow.Author.Tests.{le-leb, leb-true}
+use Rattle.number.specs.Kind.{Kind, real}
+use Rattle.number.proofs.Literals.{zero-literal}
+use Rattle.view.specs.declared.View.{View}
+use Rattle.view.specs.Place.{index}
+use Rattle.view.specs.Triangle.{endCol}
+use Rattle.slab.specs.Elem.{elem, Within}
+use Rattle.slab.specs.Eight.{Eight}
+use Rattle.slab.specs.Update.{Change, replaced}
+use Rattle.slab.proofs.UpdateLaws.{row-both, row-start}
+use Rattle.slab.proofs.LoopLaws.{span, span-start}
+use Rattle.slab.proofs.RunLaws.{elem-conj-real}
+use Rattle.blas.specs.Matrix.{pairSum}
+use Rattle.blas.proofs.SumLaws.{pair-start, pair-next, pair-end}
+use Rattle.rank_plan.specs.declared.plan.Plan.{Plan}
+use Rattle.rank_plan.specs.Change.{rightA, rightB, updateColumns}
+use Rattle.rank_plan.specs.Ready.{Paired, Entry, Block}
+use Rattle.rank_plan.proofs.Inside.{paired-kept, paired-shows}
+use Rattle.rank_plan.proofs.Rows.{column-lt}
+
+-- ---- eight sums
+
+-- a term more, and then another
+pub two-more : (K : Kind) (s next r : List (K .Cell)) (f g : ℕ → K .Elem) → Eight K next (λ t. K .add (K .at s t) (f t)) → Eight K r (λ t. K .add (K .at next t) (g t))
+    → Eight K r (λ t. K .add (K .add (K .at s t) (f t)) (g t))
+two-more K s next r f g h k = record { count = k .count; sum = λ t l. k .sum t l ∙ ap (λ z. K .add z (g t)) (h .sum t l) }
+
+-- the right factors are those that the plan reads: a real number is its own conjugate
+pub as-planned : (f : Format) (plan : Plan) (a b s r : List Float) (x y x' y' : Float) (p j : ℕ) → x ≡ x' → y ≡ y'
+    → Eight (real f) r (λ t. real f .add (real f .add (real f .at s t) (real f .mul x (elem (real f) b (plan .«right_b») p (j + t)))) (real f .mul y (elem (real f) a (plan .«right_a») p (j + t))))
+    → Eight (real f) r (λ t. real f .add (real f .add (real f .at s t) (real f .mul x' (rightB (real f) plan a b p (j + t)))) (real f .mul y' (rightA (real f) plan a b p (j + t))))
+as-planned f plan a b s r x y x' y' p j ex ey h =
+    record {
+      count = h .count;
+      sum = λ t l.
+          h .sum t l
+          ∙ (λ i. real f .add
+          (real f .add (real f .at s t) (real f .mul (ex i) (elem-conj-real f (plan .«right_conj») b (plan .«right_b») p (j + t) i)))
+          (real f .mul (ey i) (elem-conj-real f (plan .«right_conj») a (plan .«right_a») p (j + t) i)));
+    }
+
+-- sum t is of the terms f t and g t; eight zeros are the sums of no terms
+pub pairs-start : (w : Format) (f g : ℕ → ℕ → Float) → Eight (real w) (replicate 8 (ofBits w 0)) (λ t. pairSum (real w) 0 (f t) (g t))
+pairs-start w f g =
+    record {
+      count = length-replicate 8 (ofBits w 0);
+      sum = λ t l. getD-replicate 8 t (ofBits w 0) nan l ∙ zero-literal w ∙ sym (pair-start (real w) (f t) (g t));
+    }
+
+module _ (K : Kind) (f g : ℕ → ℕ → K .Elem) where
+  pub pairs-next : (p : ℕ) (s r : List (K .Cell)) → Eight K s (λ t. pairSum K p (f t) (g t)) → Eight K r (λ t. K .add (K .add (K .at s t) (f t p)) (g t p))
+      → Eight K r (λ t. pairSum K (p + 1) (f t) (g t))
+  pairs-next p s r h k = record { count = k .count; sum = λ t l. pair-next K (f t) (g t) p _ _ (h .sum t l) (k .sum t l) }
+
+  pub pairs-end : (p n : ℕ) (s : List (K .Cell)) → p ≤ n → n ≤ p → Eight K s (λ t. pairSum K p (f t) (g t)) → Eight K s (λ t. pairSum K n (f t) (g t))
+  pairs-end p n s l m h = record { count = h .count; sum = λ t q. pair-end K (f t) (g t) p n _ l m (h .sum t q) }
+
+-- the sum of column j, where they are those of the columns from `from` on
+pub sum-of : (K : Kind) (f : ℕ → K .Elem) (s : List (K .Cell)) (from j : ℕ) → Eight K s (λ t. f (from + t)) → from ≤ j → j < from + 8 → K .at s (j - from) ≡ f j
+sum-of K f s from j h l m =
+    let q : j - from < 8 = omega arith in
+    let e : from + (j - from) ≡ j = omega arith in
+    h .sum (j - from) q ∙ ap f e
+
+-- ---- an element settled by a number that is known
+
+pub settled : (K : Kind) (v : View) (i j : ℕ) (scale : K .Elem → K .Elem) (x y : K .Elem) (s t : List (K .Cell)) → x ≡ y
+    → t ≡ replaced K v i j (λ old. K .add (scale old) x) s → t ≡ replaced K v i j (λ old. K .add (scale old) y) s
+settled K v i j scale x y s t e h = h ∙ ap (λ z. replaced K v i j (λ old. K .add (scale old) z) s) e
+
+-- ---- the columns before j, and then those from j on
+
+pub span-on : (K : Kind) (v : View) (u : Change K) (i a j e : ℕ) (s₀ s t : List (K .Cell)) → a ≤ j → j ≤ e → s ≡ span K v u i a j s₀ → t ≡ updateColumns K v u i j e s
+    → t ≡ span K v u i a e s₀
+span-on K v u i a j e s₀ s t h l p q =
+    q
+    ∙ row-both K v (λ r k. leb j k) (λ r k. leb a k) u u (λ x y. x ≡ y) i j e l
+    (λ k m g. (le-leb j k m ∙ sym (le-leb a k (omega arith)), λ _ x y d. ap (λ z. K .put z (index v i k) (u i k (elem K z v i k))) d))
+    s
+    s₀
+    (sym (span-start K v u i j s) ∙ p)
+
+-- a loop that is left at j has settled the columns before e, where u' says of each of them what u says
+pub columns-end : (K : Kind) (v : View) (u u' : Change K) (i a j e : ℕ) (s₀ s : List (K .Cell)) → j ≤ e → e ≤ j → s ≡ span K v u i a j s₀
+    → ((k : ℕ) → a ≤ k → k < e → (x : K .Elem) → u i k x ≡ u' i k x) → s ≡ updateColumns K v u' i a e s₀
+columns-end K v u u' i a j e s₀ s l m p same =
+    let q : j ≡ e = omega arith in
+    p
+    ∙ ap (λ (k : ℕ). span K v u i a k s₀) q
+    ∙ row-both K v (λ r k. leb a k) (λ r k. leb a k) u u' (λ x y. x ≡ y) i 0 e (omega arith)
+    (λ k _ g. (
+      refl,
+      λ w x y d.
+          ap (λ z. K .put z (index v i k) (u i k (elem K z v i k))) d
+          ∙ ap (K .put y (index v i k)) (same k (leb-true a k w) g (elem K y v i k)),
+    ))
+    s₀
+    s₀
+    (row-start K v (λ r k. leb a k) u s₀ i ∙ sym (row-start K v (λ r k. leb a k) u' s₀ i))
+
+-- ---- what a block asks of its slabs
+
+module _ (plan : Plan) (la lb lc i from first end : ℕ) (b : Block plan la lb lc i from first end) where
+  pub block-sums : Entry plan la lb i (from + 7)
+  block-sums = record { factors = b .paired .factors; row = b .row; col = omega (arith, b .eight) }
+
+  pub block-shows : (lc' j : ℕ) → lc' ≡ lc → j < end → Within (plan .target) lc' i j
+  block-shows lc' j kept l = paired-shows plan la lb lc lc' kept (b .paired) i j (b .row) (omega (arith, b .eight, b .ends, b .paired .target .cols)) .1
+
+-- ---- the block of column j of row i, of the n columns of a target, before column e
+
+module _ (plan : Plan) (la lb lc : ℕ) (o : Paired plan la lb lc) (i : ℕ) (h : i < plan .target .rows) (wide : 8 ≤ plan .target .cols)
+    (n : ℕ) (en : n ≡ plan .target .cols) (e : ℕ) (ee : e ≡ endCol (plan .uplo) i n) (j : ℕ) (l : j < e) where
+  pub block-asks : (j < n) × (8 ≤ n) × (n < 2 ^ 63)
+  block-asks = (
+    omega (arith, column-lt (plan .target) lc (o .target) i h n en (plan .uplo) e j ee l, en, o .target .cols),
+    omega (arith, wide, en),
+    omega (arith, en, o .target .fits .cols-le),
+  )
+
+  pub next-block : (lc' : ℕ) → lc' ≡ lc → (from stop : ℕ) → (from ≤ j) × (j < from + 8) × (from + 8 ≤ n) → (stop ≤ e) × (stop ≤ from + 8) × ((k : ℕ) → k < e → k < from + 8 → k < stop)
+      → Block plan la lb lc' i from j stop
+  next-block lc' kept from stop s t =
+      record {
+        paired = paired-kept plan la lb lc lc' kept o;
+        row = h;
+        eight = omega (arith, s .2, en);
+        begins = s .0;
+        ordered = omega (arith, t .2 j l (s .1));
+        ends = t .1;
+      }
