@@ -10,7 +10,7 @@ use Rattle.number.proofs.Commutes.{Commutes}
 use Rattle.view.specs.declared.View.{View}
 use Rattle.view.specs.Place.{index, transposedOf}
 use Rattle.slab.specs.Elem.{elem, Within}
-use Rattle.slab.specs.Eight.{Eight}
+use Rattle.slab.specs.Eight.{Eight, Block}
 use Rattle.slab.specs.Run.{plusTerms}
 use Rattle.slab.specs.Update.{everywhere, span, spanRows, updateRows}
 use Rattle.slab.proofs.EightLaws.{eight-same}
@@ -21,7 +21,7 @@ use Rattle.blas.proofs.OpLaws.{transposed-elem}
 use Rattle.blas.proofs.SumLaws.{sum-start, sum-end}
 use Rattle.product_plan.specs.declared.plan.Factors.{Factors}
 use Rattle.product_plan.specs.declared.plan.Folded.{Folded}
-use Rattle.product_plan.specs.Plan.{term, termsBefore, turnedSum, foldedProduct, Block, Turns}
+use Rattle.product_plan.specs.Plan.{term, termsBefore, turnedSum, foldedProduct, Turns}
 use Rattle.product_plan.proofs.Sums.{plus-start, plus-end, plus-join, sum-whole, real-next, real-sum-next, folded-sum}
 
 -- ---- terms added to each of eight sums, x t being what sum t began with

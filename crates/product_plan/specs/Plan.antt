@@ -54,13 +54,6 @@ abbrev pub turnedSum : (K : Kind) → Folded → List (K .Cell) → List (K .Cel
 turnedSum K plan a b i j from end x =
     plusTerms K (plusTerms K x (term K (plan .head) a b i j) from (termsBefore (plan .turn) i j - from)) (term K (plan .tail) a b i j) (termsBefore (plan .turn) i j) (end - termsBefore (plan .turn) i j)
 
--- of n columns, or rows, the eight from `from` on have those from `first` to before `end`
-pub record Block (from first end n : ℕ) : Type 0 where
-  pub begins : from ≤ first
-  pub ordered : first ≤ end
-  pub ends : end ≤ from + 8
-  pub within : from + 8 ≤ n
-
 -- ---- what the engine asks of its caller: that it reads and writes inside the slabs, of la, lb and lc elements
 
 -- the factors of every term of m rows and n columns, k terms each

@@ -1,28 +1,25 @@
 -- Eight sums of pairs of products side by side, as a loop meets them, and the columns of a row that are settled from them.
 use Prim.Native.Nat.{ℕ, _+_, _-_, _^_, _≤_, _<_}
 use mathlib.Core.List.{List}
-use mathlib.Core.Path.{_≡_, refl, sym, ap, _∙_}
+use mathlib.Core.Path.{_≡_, sym, ap, _∙_}
 use native.Mathlib.Omega.{arith}
-use lib.Ieee.{Float, Format, nan, ofBits}
-use lib.ListN.{replicate, length-replicate, getD-replicate}
-use lib.Dec.{leb}
-use borrow.Author.Tests.{le-leb, leb-true}
+use lib.Ieee.{Float, Format, ofBits}
+use lib.ListN.{replicate}
 use Rattle.number.specs.Kind.{Kind, real}
 use Rattle.number.proofs.Literals.{zero-literal}
 use Rattle.view.specs.declared.View.{View}
-use Rattle.view.specs.Place.{index}
 use Rattle.view.specs.Triangle.{endCol}
 use Rattle.slab.specs.Elem.{elem, Within}
-use Rattle.slab.specs.Eight.{Eight}
-use Rattle.slab.specs.Update.{Change, replaced}
-use Rattle.slab.proofs.UpdateLaws.{row-both, row-start}
-use Rattle.slab.proofs.LoopLaws.{span, span-start}
+use Rattle.slab.specs.Eight.{Eight, Block}
+use Rattle.slab.specs.Update.{Change, span, replaced}
+use Rattle.slab.proofs.EightLaws.{eight-of}
+use Rattle.slab.proofs.LoopLaws.{span-end, span-same}
 use Rattle.slab.proofs.RunLaws.{elem-conj-real}
 use Rattle.blas.specs.Matrix.{pairSum}
 use Rattle.blas.proofs.SumLaws.{pair-start, pair-next, pair-end}
 use Rattle.rank_plan.specs.declared.plan.Plan.{Plan}
-use Rattle.rank_plan.specs.Change.{rightA, rightB, updateColumns}
-use Rattle.rank_plan.specs.Ready.{Paired, Entry, Block}
+use Rattle.rank_plan.specs.Change.{rightA, rightB}
+use Rattle.rank_plan.specs.Ready.{Paired, Entry, BlockWithin}
 use Rattle.rank_plan.proofs.Inside.{paired-kept, paired-shows}
 use Rattle.rank_plan.proofs.Rows.{column-lt}
 
@@ -50,10 +47,8 @@ as-planned f plan a b s r x y x' y' p j ex ey h =
 -- sum t is of the terms f t and g t; eight zeros are the sums of no terms
 pub pairs-start : (w : Format) (f g : ℕ → ℕ → Float) → Eight (real w) (replicate 8 (ofBits w 0)) (λ t. pairSum (real w) 0 (f t) (g t))
 pairs-start w f g =
-    record {
-      count = length-replicate 8 (ofBits w 0);
-      sum = λ t l. getD-replicate 8 t (ofBits w 0) nan l ∙ zero-literal w ∙ sym (pair-start (real w) (f t) (g t));
-    }
+    let none = eight-of w (ofBits w 0) in
+    record { count = none .count; sum = λ t l. none .sum t l ∙ zero-literal w ∙ sym (pair-start (real w) (f t) (g t)) }
 
 module _ (K : Kind) (f g : ℕ → ℕ → K .Elem) where
   pub pairs-next : (p : ℕ) (s r : List (K .Cell)) → Eight K s (λ t. pairSum K p (f t) (g t)) → Eight K r (λ t. K .add (K .add (K .at s t) (f t p)) (g t p))
@@ -76,44 +71,20 @@ pub settled : (K : Kind) (v : View) (i j : ℕ) (scale : K .Elem → K .Elem) (x
     → t ≡ replaced K v i j (λ old. K .add (scale old) x) s → t ≡ replaced K v i j (λ old. K .add (scale old) y) s
 settled K v i j scale x y s t e h = h ∙ ap (λ z. replaced K v i j (λ old. K .add (scale old) z) s) e
 
--- ---- the columns before j, and then those from j on
+-- ---- a loop that is left at j has settled the columns before e, where u' says of each of them what u says
 
-pub span-on : (K : Kind) (v : View) (u : Change K) (i a j e : ℕ) (s₀ s t : List (K .Cell)) → a ≤ j → j ≤ e → s ≡ span K v u i a j s₀ → t ≡ updateColumns K v u i j e s
-    → t ≡ span K v u i a e s₀
-span-on K v u i a j e s₀ s t h l p q =
-    q
-    ∙ row-both K v (λ r k. leb j k) (λ r k. leb a k) u u (λ x y. x ≡ y) i j e l
-    (λ k m g. (le-leb j k m ∙ sym (le-leb a k (omega arith)), λ _ x y d. ap (λ z. K .put z (index v i k) (u i k (elem K z v i k))) d))
-    s
-    s₀
-    (sym (span-start K v u i j s) ∙ p)
-
--- a loop that is left at j has settled the columns before e, where u' says of each of them what u says
-pub columns-end : (K : Kind) (v : View) (u u' : Change K) (i a j e : ℕ) (s₀ s : List (K .Cell)) → j ≤ e → e ≤ j → s ≡ span K v u i a j s₀
-    → ((k : ℕ) → a ≤ k → k < e → (x : K .Elem) → u i k x ≡ u' i k x) → s ≡ updateColumns K v u' i a e s₀
-columns-end K v u u' i a j e s₀ s l m p same =
-    let q : j ≡ e = omega arith in
-    p
-    ∙ ap (λ (k : ℕ). span K v u i a k s₀) q
-    ∙ row-both K v (λ r k. leb a k) (λ r k. leb a k) u u' (λ x y. x ≡ y) i 0 e (omega arith)
-    (λ k _ g. (
-      refl,
-      λ w x y d.
-          ap (λ z. K .put z (index v i k) (u i k (elem K z v i k))) d
-          ∙ ap (K .put y (index v i k)) (same k (leb-true a k w) g (elem K y v i k)),
-    ))
-    s₀
-    s₀
-    (row-start K v (λ r k. leb a k) u s₀ i ∙ sym (row-start K v (λ r k. leb a k) u' s₀ i))
+pub columns-end : (K : Kind) (v : View) (u u' : Change K) (i a j e : ℕ) (s₀ s : List (K .Cell)) → a ≤ j → j ≤ e → e ≤ j → s ≡ span K v u i a j s₀
+    → ((k : ℕ) → a ≤ k → k < e → (x : K .Elem) → u i k x ≡ u' i k x) → s ≡ span K v u' i a e s₀
+columns-end K v u u' i a j e s₀ s g l m p same = span-end K v u i a j e s₀ s l m p ∙ span-same K v u i u' a e s₀ (omega arith) same
 
 -- ---- what a block asks of its slabs
 
-module _ (plan : Plan) (la lb lc i from first end : ℕ) (b : Block plan la lb lc i from first end) where
+module _ (plan : Plan) (la lb lc i from first end : ℕ) (b : BlockWithin plan la lb lc i from first end) where
   pub block-sums : Entry plan la lb i (from + 7)
-  block-sums = record { factors = b .paired .factors; row = b .row; col = omega (arith, b .eight) }
+  block-sums = record { factors = b .paired .factors; row = b .row; col = omega (arith, b .block .within) }
 
   pub block-shows : (lc' j : ℕ) → lc' ≡ lc → j < end → Within (plan .target) lc' i j
-  block-shows lc' j kept l = paired-shows plan la lb lc lc' kept (b .paired) i j (b .row) (omega (arith, b .eight, b .ends, b .paired .target .cols)) .1
+  block-shows lc' j kept l = paired-shows plan la lb lc lc' kept (b .paired) i j (b .row) (omega (arith, b .block .within, b .block .ends, b .paired .target .cols)) .1
 
 -- ---- the block of column j of row i, of the n columns of a target, before column e
 
@@ -127,13 +98,10 @@ module _ (plan : Plan) (la lb lc : ℕ) (o : Paired plan la lb lc) (i : ℕ) (h 
   )
 
   pub next-block : (lc' : ℕ) → lc' ≡ lc → (from stop : ℕ) → (from ≤ j) × (j < from + 8) × (from + 8 ≤ n) → (stop ≤ e) × (stop ≤ from + 8) × ((k : ℕ) → k < e → k < from + 8 → k < stop)
-      → Block plan la lb lc' i from j stop
+      → BlockWithin plan la lb lc' i from j stop
   next-block lc' kept from stop s t =
       record {
         paired = paired-kept plan la lb lc lc' kept o;
         row = h;
-        eight = omega (arith, s .2, en);
-        begins = s .0;
-        ordered = omega (arith, t .2 j l (s .1));
-        ends = t .1;
+        block = record { begins = s .0; ordered = omega (arith, t .2 j l (s .1)); ends = t .1; within = omega (arith, s .2, en) };
       }

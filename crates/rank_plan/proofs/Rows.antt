@@ -8,9 +8,9 @@ use Rattle.view.specs.declared.View.{View}
 use Rattle.view.specs.declared.UpLo.{UpLo}
 use Rattle.view.specs.declared.UpLo.the-variants.{Upper, Lower}
 use Rattle.view.specs.Triangle.{inTriangle, firstCol, endCol}
-use Rattle.slab.specs.Update.{Change, updateRow}
+use Rattle.slab.specs.Update.{Change, updateRow, span}
 use Rattle.slab.proofs.Columns.{columns-last, row-columns}
-pub use Rattle.slab.proofs.LoopLaws.{span, span-start, span-next}
+pub use Rattle.slab.proofs.LoopLaws.{span-start, span-next}
 use Rattle.rank_plan.specs.Ready.{SquareWithin}
 
 -- ---- the columns in the named triangle

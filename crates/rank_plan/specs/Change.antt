@@ -1,11 +1,9 @@
 -- What becomes of an element of the target, over any number kind.
 use Prim.Native.Nat.{ℕ}
 use mathlib.Core.List.{List}
-use lib.Dec.{leb}
 use Rattle.number.specs.Kind.{Kind}
-use Rattle.view.specs.declared.View.{View}
 use Rattle.slab.specs.Run.{elemConj}
-use Rattle.slab.specs.Update.{Change, updateRow}
+use Rattle.slab.specs.Update.{Change}
 use Rattle.blas.specs.Matrix.{Matrix, pairSum}
 use Rattle.rank_plan.specs.declared.plan.Plan.{Plan}
 
@@ -59,8 +57,3 @@ module _ (K : Kind) (plan : Plan) (a b : List (K .Cell)) where
 
   abbrev pub her2kChange : K .Elem → (K .Elem → K .Elem) → Change K
   her2kChange alpha byBeta i j old = K .add (byBeta old) (weighedsAt alpha i j (plan .terms))
-
--- ---- columns `first` to before `end` of row i
-
-abbrev pub updateColumns : (K : Kind) → View → Change K → ℕ → ℕ → ℕ → List (K .Cell) → List (K .Cell)
-updateColumns K v u i first end s = updateRow K v (λ r j. leb first j) u i end s

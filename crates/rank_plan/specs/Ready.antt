@@ -3,6 +3,7 @@ use Prim.Native.Nat.{ℕ, _+_, _≤_, _<_}
 use mathlib.Core.Path.{_≡_}
 use Rattle.view.specs.declared.View.{View}
 use Rattle.view.specs.Steps.{Accepted}
+use Rattle.slab.specs.Eight.{Block}
 use Rattle.rank_plan.specs.declared.plan.Plan.{Plan}
 
 -- a view that fits its slab and has m rows and n columns
@@ -43,10 +44,7 @@ pub record Entry (plan : Plan) (la lb i j : ℕ) : Type 0 where
   pub col : j < plan .target .cols
 
 -- columns `first` to before `end` of row i of the target, among the eight columns from `from` on
-pub record Block (plan : Plan) (la lb lc i from first end : ℕ) : Type 0 where
+pub record BlockWithin (plan : Plan) (la lb lc i from first end : ℕ) : Type 0 where
   pub paired : Paired plan la lb lc
   pub row : i < plan .target .rows
-  pub eight : from + 8 ≤ plan .target .cols
-  pub begins : from ≤ first
-  pub ordered : first ≤ end
-  pub ends : end ≤ from + 8
+  pub block : Block from first end (plan .target .cols)

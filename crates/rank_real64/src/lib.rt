@@ -7,7 +7,7 @@ ghost use Rattle.number.specs.Kind.{real64};
 ghost use Rattle.number.specs.Scaling.{scaleBy64};
 ghost use Rattle.view.specs.Triangle.{inTriangle};
 ghost use Rattle.slab.specs.Elem.{elem, lent, Within};
-ghost use Rattle.slab.specs.Update.{replaced, updateRow, update};
+ghost use Rattle.slab.specs.Update.{replaced, span, updateRow, update};
 ghost use Rattle.slab.specs.Run.{elemConj};
 ghost use Rattle.slab.specs.Eight.{Eight};
 ghost use Rattle.blas.specs.Outcome.{Gives};
@@ -15,8 +15,8 @@ ghost use Rattle.blas.specs.Her;
 ghost use Rattle.blas.specs.Her2;
 ghost use Rattle.blas.specs.Her2k;
 ghost use Rattle.blas.specs.Syr2k;
-ghost use Rattle.rank_plan.specs.Change.{addOne, addTwo, pairAt, pairsAt, weighedAt, weighedsAt, syr2kChange, her2kChange, updateColumns};
-ghost use Rattle.rank_plan.specs.Ready.{One, Two, Entry, Paired, Block};
+ghost use Rattle.rank_plan.specs.Change.{addOne, addTwo, pairAt, pairsAt, weighedAt, weighedsAt, syr2kChange, her2kChange};
+ghost use Rattle.rank_plan.specs.Ready.{One, Two, Entry, Paired, BlockWithin};
 use judge::check_her;
 use judge::check_her2;
 use judge::check_her2k;
@@ -433,8 +433,8 @@ fn syr2k_block(
     first: usize,
     end: usize,
 )
-    requires { ⌜ Block plan (real64 .count (now a)) (real64 .count (now b)) (real64 .count (now c)) i from first end ⌝ }
-    ensures { λ _. ⌜ now (c .exit) ≡ updateColumns real64 (plan .target) (syr2kChange real64 plan (now (a .entry)) (now (b .entry)) (alpha .0) (scaleBy64 beta)) i first end (now (c .entry)) ⌝ }
+    requires { ⌜ BlockWithin plan (real64 .count (now a)) (real64 .count (now b)) (real64 .count (now c)) i from first end ⌝ }
+    ensures { λ _. ⌜ now (c .exit) ≡ span real64 (plan .target) (syr2kChange real64 plan (now (a .entry)) (now (b .entry)) (alpha .0) (scaleBy64 beta)) i first end (now (c .entry)) ⌝ }
 {
     let sums = pair_sums(plan, a, b, i, from);
     let mut j = first;
@@ -514,8 +514,8 @@ fn her2k_block(
     first: usize,
     end: usize,
 )
-    requires { ⌜ Block plan (real64 .count (now a)) (real64 .count (now b)) (real64 .count (now c)) i from first end ⌝ }
-    ensures { λ _. ⌜ now (c .exit) ≡ updateColumns real64 (plan .target) (her2kChange real64 plan (now (a .entry)) (now (b .entry)) (alpha .0) (scaleBy64 beta)) i first end (now (c .entry)) ⌝ }
+    requires { ⌜ BlockWithin plan (real64 .count (now a)) (real64 .count (now b)) (real64 .count (now c)) i from first end ⌝ }
+    ensures { λ _. ⌜ now (c .exit) ≡ span real64 (plan .target) (her2kChange real64 plan (now (a .entry)) (now (b .entry)) (alpha .0) (scaleBy64 beta)) i first end (now (c .entry)) ⌝ }
 {
     let sums = weighed_sums(alpha, plan, a, b, i, from);
     let mut j = first;

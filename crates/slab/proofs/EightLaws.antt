@@ -1,11 +1,11 @@
 -- An array of eight numbers, each replaced in its turn.
-use Prim.Native.Nat.{ℕ, zero, suc, _+_, _≤_, _<_}
-use mathlib.Core.List.{List, [], _∷_}
+use Prim.Native.Nat.{ℕ, _+_, _≤_, _<_}
+use mathlib.Core.List.{List}
 use mathlib.Core.Path.{_≡_, refl, sym, ap, subst, _∙_}
 use native.Mathlib.Decide.{ℕ-discrete}
 use native.Mathlib.Omega.{arith}
 use lib.Ieee.{Float, Format, nan}
-use lib.ListN.{getD}
+use lib.ListN.{replicate, length-replicate, getD-replicate}
 use Rattle.number.specs.Kind.{Kind, real}
 use Rattle.number.specs.Laws.{SlabLaws}
 use Rattle.slab.specs.Eight.{Eight}
@@ -48,19 +48,5 @@ pub eight-same : (K : Kind) (s : List (K .Cell)) (f g : ℕ → K .Elem) → Eig
 eight-same K s f g h e = record { count = h .count; sum = λ t l. h .sum t l ∙ e t l }
 
 -- eight times the same number
-pub eight-of : (r : Format) (x : Float) → Eight (real r) (x ∷ x ∷ x ∷ x ∷ x ∷ x ∷ x ∷ x ∷ []) (λ t. x)
-eight-of r x = record { count = refl; sum = each }
-  where
-    each : (t : ℕ) → t < 8 → getD (x ∷ x ∷ x ∷ x ∷ x ∷ x ∷ x ∷ x ∷ []) t nan ≡ x
-    each zero l = refl
-    each (suc zero) l = refl
-    each (suc (suc zero)) l = refl
-    each (suc (suc (suc zero))) l = refl
-    each (suc (suc (suc (suc zero)))) l = refl
-    each (suc (suc (suc (suc (suc zero))))) l = refl
-    each (suc (suc (suc (suc (suc (suc zero)))))) l = refl
-    each (suc (suc (suc (suc (suc (suc (suc zero))))))) l = refl
-    each (suc (suc (suc (suc (suc (suc (suc (suc t)))))))) l = absurd (far t l)
-      where
-        far : (t : ℕ) → suc (suc (suc (suc (suc (suc (suc (suc t))))))) < 8 → ⊥
-        far t l = omega arith
+pub eight-of : (r : Format) (x : Float) → Eight (real r) (replicate 8 x) (λ t. x)
+eight-of r x = record { count = length-replicate 8 x; sum = λ t l. getD-replicate 8 t x nan l }

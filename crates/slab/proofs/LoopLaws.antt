@@ -79,6 +79,9 @@ module _ (K : Kind) (v : View) (u : Change K) (i : ℕ) where
       s₀
       (sym (span-start a s) ∙ p)
 
+  pub span-on : (a j e : ℕ) (s₀ s t : List (K .Cell)) → a ≤ j → j ≤ e → s ≡ span K v u i a j s₀ → t ≡ span K v u i j e s → t ≡ span K v u i a e s₀
+  span-on a j e s₀ s t h l p q = span-after (λ r k. leb a k) j e s₀ s t l (λ k m g. le-leb a k (omega arith)) p q
+
   -- what becomes of an element may be said in another way
   pub span-same : (u′ : Change K) (a n : ℕ) (s : List (K .Cell)) → a ≤ n → ((j : ℕ) → a ≤ j → j < n → (x : K .Elem) → u i j x ≡ u′ i j x)
       → span K v u i a n s ≡ span K v u′ i a n s

@@ -6,10 +6,8 @@ use lib.ListN.{length}
 use Rattle.number.specs.Kind.{real32}
 use Rattle.number.specs.Scaling.{scaleBy32}
 use Rattle.slab.specs.Update.{span}
-use Rattle.slab.proofs.LoopLaws.{span-start, span-after}
+use Rattle.slab.proofs.LoopLaws.{span-start, span-on}
 use Rattle.slab.proofs.Columns.{row-columns}
-use borrow.Author.Tests.{le-leb}
-use lib.Dec.{leb}
 use Rattle.product_plan.specs.Plan.{planChange}
 use Rattle.product_plan.proofs.Rows.{span-last}
 use Rattle.product_plan.proofs.Ready.{ready-kept}
@@ -43,7 +41,7 @@ loop-again c =
     let s = c .before .before .before .before .before .block-start .ensures in
     let e = c .before .before .before .before .block-end .ensures in
     let further = e .2 (l .j) (omega arith) (s .1) in
-    (omega (arith, further), e .0, c .before .before .block .kept .1 .1 .1 .1 .1 .0 ∙ l .inv .2, span-after real32 _ _ _ (λ r j. leb _ j) (l .j) _ _ _ _ (omega (arith, further)) (λ j h g. le-leb _ j (omega (arith, l .inv .0))) (l .inv .3) (c .before .before .block .ensures))
+    (omega (arith, further), e .0, c .before .before .block .kept .1 .1 .1 .1 .1 .0 ∙ l .inv .2, span-on real32 _ _ _ _ _ _ _ _ _ (l .inv .0) (omega (arith, further)) (l .inv .3) (c .before .before .block .ensures))
 
 pub triangle-wide-row-spec : {M : Type 1} → statement M
 triangle-wide-row-spec =

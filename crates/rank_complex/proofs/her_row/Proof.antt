@@ -8,7 +8,8 @@ use Rattle.slab.specs.Elem.{elem}
 use Rattle.blas.specs.Her.{herChange}
 use Rattle.rank_plan.specs.Change.{addOne}
 use Rattle.rank_plan.proofs.Inside.{column-shows, one-shows}
-use Rattle.rank_plan.proofs.Rows.{span, span-start, span-next, span-last, row-lt, begins, column-lt}
+use Rattle.slab.specs.Update.{span}
+use Rattle.rank_plan.proofs.Rows.{span-start, span-next, span-last, row-lt, begins, column-lt}
 use Rattle.rank_plan.proofs.Laws.{her-same}
 use Rattle.rank_complex.proofs.her_row.Statement.{statement}
 use Rattle.rank_complex.proofs.her_row.Tie as tie

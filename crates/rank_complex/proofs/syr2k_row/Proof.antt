@@ -7,7 +7,8 @@ use Rattle.number.specs.Kind.{complex}
 use Rattle.number.specs.Scaling.{scaleByComplex}
 use Rattle.rank_plan.specs.Change.{syr2kChange}
 use Rattle.rank_plan.proofs.Inside.{paired-shows}
-use Rattle.rank_plan.proofs.Rows.{span, span-start, span-next, span-last, row-lt, begins, column-lt}
+use Rattle.slab.specs.Update.{span}
+use Rattle.rank_plan.proofs.Rows.{span-start, span-next, span-last, row-lt, begins, column-lt}
 use Rattle.rank_complex.proofs.syr2k_row.Statement.{statement}
 use Rattle.rank_complex.proofs.syr2k_row.Tie as tie
 

@@ -5,7 +5,8 @@ use lib.ListN.{length}
 use denote.Ref.{now}
 use Rattle.number.specs.Kind.{real32}
 use Rattle.number.specs.Scaling.{scaleBy32}
-use Rattle.slab.proofs.LoopLaws.{span, span-start, span-next}
+use Rattle.slab.specs.Update.{span}
+use Rattle.slab.proofs.LoopLaws.{span-start, span-next}
 use Rattle.rank_plan.specs.Change.{weighedsAt, her2kChange}
 use Rattle.rank_plan.proofs.Eights.{sum-of, columns-end, block-sums, block-shows}
 use Rattle.rank_real32.proofs.her2k_block.Statement.{statement}
@@ -18,7 +19,7 @@ abbrev μ-loop : tie.MeasureT-loop
 μ-loop beta plan a b c₀ i from first end sums j₀ c j = end - j
 
 loop-holds : tie.Need-loop-holds Inv-loop μ-loop
-loop-holds c = (omega arith, c .before .before .before .before .pre .ordered, refl, span-start real32 _ _ _ _ _)
+loop-holds c = (omega arith, c .before .before .before .before .pre .block .ordered, refl, span-start real32 _ _ _ _ _)
 
 settle-requires : tie.Need-settle-requires Inv-loop μ-loop
 settle-requires c κs = block-shows _ _ _ _ _ _ _ _ (c .before .before .before .before .before .before .before .pre) _ _ (c .before .before .loop .inv .2) (omega arith)
@@ -37,8 +38,8 @@ returns c =
     let s = c .before .before .before .before .before .before in
     let p = s .args in
     let l = c .before .loop in
-    columns-end real32 _ _ (her2kChange real32 (p .plan) (now (p .a)) (now (p .b)) (p .alpha .0) (scaleBy32 (p .beta))) _ _ _ _ _ _ (l .inv .1) (omega arith) (l .inv .3)
-    (λ k f g old. ap (λ z. real32 .add (scaleBy32 (p .beta) old) z) (sum-of real32 (λ k. weighedsAt real32 (p .plan) (now (p .a)) (now (p .b)) (p .alpha .0) (p .i) k (p .plan .terms)) _ (p .from) k (c .before .before .weighed-sums .ensures) (omega (arith, s .pre .begins)) (omega (arith, s .pre .ends))))
+    columns-end real32 _ _ (her2kChange real32 (p .plan) (now (p .a)) (now (p .b)) (p .alpha .0) (scaleBy32 (p .beta))) _ _ _ _ _ _ (l .inv .0) (l .inv .1) (omega arith) (l .inv .3)
+    (λ k f g old. ap (λ z. real32 .add (scaleBy32 (p .beta) old) z) (sum-of real32 (λ k. weighedsAt real32 (p .plan) (now (p .a)) (now (p .b)) (p .alpha .0) (p .i) k (p .plan .terms)) _ (p .from) k (c .before .before .weighed-sums .ensures) (omega (arith, s .pre .block .begins)) (omega (arith, s .pre .block .ends))))
 
 pub her2k-block-spec : {M : Type 1} → statement M
 her2k-block-spec =
@@ -48,9 +49,9 @@ her2k-block-spec =
     μ-loop
     (λ c κs. block-sums _ _ _ _ _ _ _ _ (c .before .before .before .pre))
     loop-holds
-    (λ c. omega (arith, c .before .before .before .before .before .before .pre .begins))
-    (λ c. omega (arith, c .before .before .before .before .before .before .pre .begins, c .before .before .before .before .before .before .pre .ends))
-    (λ c. omega (arith, c .before .before .before .before .before .before .pre .begins, c .before .before .before .before .before .before .pre .ends))
+    (λ c. omega (arith, c .before .before .before .before .before .before .pre .block .begins))
+    (λ c. omega (arith, c .before .before .before .before .before .before .pre .block .begins, c .before .before .before .before .before .before .pre .block .ends))
+    (λ c. omega (arith, c .before .before .before .before .before .before .pre .block .begins, c .before .before .before .before .before .before .pre .block .ends))
     settle-requires
     (λ c. omega arith)
     (λ c. omega arith)

@@ -5,7 +5,8 @@ use lib.ListN.{length}
 use denote.Ref.{now}
 use Rattle.number.specs.Kind.{real32}
 use Rattle.number.specs.Scaling.{scaleBy32}
-use Rattle.slab.proofs.LoopLaws.{span, span-start, span-next}
+use Rattle.slab.specs.Update.{span}
+use Rattle.slab.proofs.LoopLaws.{span-start, span-next}
 use Rattle.rank_plan.specs.Change.{pairsAt, syr2kChange}
 use Rattle.rank_plan.proofs.Eights.{sum-of, settled, columns-end, block-sums, block-shows}
 use Rattle.rank_real32.proofs.syr2k_block.Statement.{statement}
@@ -18,7 +19,7 @@ abbrev μ-loop : tie.MeasureT-loop
 μ-loop alpha beta plan a b c₀ i from first end sums j₀ c j = end - j
 
 loop-holds : tie.Need-loop-holds Inv-loop μ-loop
-loop-holds c = (omega arith, c .before .before .before .before .pre .ordered, refl, span-start real32 _ _ _ _ _)
+loop-holds c = (omega arith, c .before .before .before .before .pre .block .ordered, refl, span-start real32 _ _ _ _ _)
 
 settle-requires : tie.Need-settle-requires Inv-loop μ-loop
 settle-requires c κs = block-shows _ _ _ _ _ _ _ _ (c .before .before .before .before .before .before .before .before .pre) _ _ (c .before .before .before .loop .inv .2) (omega arith)
@@ -38,8 +39,8 @@ returns c =
     let s = c .before .before .before .before .before .before in
     let p = s .args in
     let l = c .before .loop in
-    columns-end real32 _ _ (syr2kChange real32 (p .plan) (now (p .a)) (now (p .b)) (p .alpha .0) (scaleBy32 (p .beta))) _ _ _ _ _ _ (l .inv .1) (omega arith) (l .inv .3)
-    (λ k f g old. ap (λ z. real32 .add (scaleBy32 (p .beta) old) (real32 .mul (p .alpha .0) z)) (sum-of real32 (λ k. pairsAt real32 (p .plan) (now (p .a)) (now (p .b)) (p .i) k (p .plan .terms)) _ (p .from) k (c .before .before .pair-sums .ensures) (omega (arith, s .pre .begins)) (omega (arith, s .pre .ends))))
+    columns-end real32 _ _ (syr2kChange real32 (p .plan) (now (p .a)) (now (p .b)) (p .alpha .0) (scaleBy32 (p .beta))) _ _ _ _ _ _ (l .inv .0) (l .inv .1) (omega arith) (l .inv .3)
+    (λ k f g old. ap (λ z. real32 .add (scaleBy32 (p .beta) old) (real32 .mul (p .alpha .0) z)) (sum-of real32 (λ k. pairsAt real32 (p .plan) (now (p .a)) (now (p .b)) (p .i) k (p .plan .terms)) _ (p .from) k (c .before .before .pair-sums .ensures) (omega (arith, s .pre .block .begins)) (omega (arith, s .pre .block .ends))))
 
 pub syr2k-block-spec : {M : Type 1} → statement M
 syr2k-block-spec =
@@ -49,9 +50,9 @@ syr2k-block-spec =
     μ-loop
     (λ c κs. block-sums _ _ _ _ _ _ _ _ (c .before .before .before .pre))
     loop-holds
-    (λ c. omega (arith, c .before .before .before .before .before .before .pre .begins))
-    (λ c. omega (arith, c .before .before .before .before .before .before .pre .begins, c .before .before .before .before .before .before .pre .ends))
-    (λ c. omega (arith, c .before .before .before .before .before .before .pre .begins, c .before .before .before .before .before .before .pre .ends))
+    (λ c. omega (arith, c .before .before .before .before .before .before .pre .block .begins))
+    (λ c. omega (arith, c .before .before .before .before .before .before .pre .block .begins, c .before .before .before .before .before .before .pre .block .ends))
+    (λ c. omega (arith, c .before .before .before .before .before .before .pre .block .begins, c .before .before .before .before .before .before .pre .block .ends))
     (λ c κs. tt)
     settle-requires
     (λ c. omega arith)

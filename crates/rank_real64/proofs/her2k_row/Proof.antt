@@ -7,7 +7,8 @@ use Rattle.number.specs.Kind.{real64}
 use Rattle.number.specs.Scaling.{scaleBy64}
 use Rattle.rank_plan.specs.Change.{her2kChange}
 use Rattle.rank_plan.proofs.Inside.{paired-shows}
-use Rattle.rank_plan.proofs.Rows.{span, span-start, span-next, span-last, row-lt, begins, column-lt}
+use Rattle.slab.specs.Update.{span}
+use Rattle.rank_plan.proofs.Rows.{span-start, span-next, span-last, row-lt, begins, column-lt}
 use Rattle.rank_real64.proofs.her2k_row.Statement.{statement}
 use Rattle.rank_real64.proofs.her2k_row.Tie as tie
 

@@ -6,8 +6,10 @@ use denote.Ref.{now}
 use Rattle.number.specs.Kind.{real64}
 use Rattle.number.specs.Scaling.{scaleBy64}
 use Rattle.rank_plan.specs.Change.{her2kChange}
-use Rattle.rank_plan.proofs.Rows.{span, span-start, span-last, row-lt, begins}
-use Rattle.rank_plan.proofs.Eights.{span-on, block-asks, next-block}
+use Rattle.slab.specs.Update.{span}
+use Rattle.rank_plan.proofs.Rows.{span-start, span-last, row-lt, begins}
+use Rattle.slab.proofs.LoopLaws.{span-on}
+use Rattle.rank_plan.proofs.Eights.{block-asks, next-block}
 use Rattle.rank_real64.proofs.her2k_wide_row.Statement.{statement}
 use Rattle.rank_real64.proofs.her2k_wide_row.Tie as tie
 
