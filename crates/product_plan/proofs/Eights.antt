@@ -10,7 +10,7 @@ use Rattle.number.proofs.Commutes.{Commutes}
 use Rattle.view.specs.declared.View.{View}
 use Rattle.view.specs.Place.{index, transposedOf}
 use Rattle.slab.specs.Elem.{elem, Within}
-use Rattle.slab.specs.Eight.{Eight, Block}
+use Rattle.slab.specs.Eight.{Eight, Lanes, Block}
 use Rattle.slab.specs.Run.{plusTerms}
 use Rattle.slab.specs.Update.{everywhere, span, spanRows, updateRows}
 use Rattle.slab.proofs.EightLaws.{eight-same}
@@ -122,9 +122,9 @@ turn-at-once K plan a b la lb i j from end sums h g n =
 
 module _ (K : Kind) (v : View) (f h : K .Elem → K .Elem) (P : Matrix K) (sums : List (K .Cell)) where
   -- part of the eight elements of row i from column `from` on
-  pub block-settled : (i from first end n : ℕ) (c after : List (K .Cell)) → Block from first end n → Eight K sums (λ t. P i (from + t))
+  pub block-settled : (w i from first end n : ℕ) (c after : List (K .Cell)) → Block w from first end n → Lanes K w sums (λ t. P i (from + t))
       → after ≡ span K v (accumulate K f h (λ i j. K .at sums (j - from))) i first end c → after ≡ span K v (accumulate K f h P) i first end c
-  block-settled i from first end n c after b e q =
+  block-settled w i from first end n c after b e q =
       q ∙ span-same K v (accumulate K f h (λ i j. K .at sums (j - from))) i (accumulate K f h P) first end c (b .ordered) (λ j l g x. ap (λ y. K .add (f x) (h y)) (lane j l g))
     where
       lane : (j : ℕ) → first ≤ j → j < end → K .at sums (j - from) ≡ P i j
@@ -133,7 +133,7 @@ module _ (K : Kind) (v : View) (f h : K .Elem → K .Elem) (P : Matrix K) (sums 
           e .sum (j - from) (omega (arith, b .begins, b .ends)) ∙ ap (P i) d
 
   -- and of a column's eight from row `from` on, after the rows before
-  pub column-settled : (from first end n : ℕ) (c₀ c after : List (K .Cell)) → v .cols ≡ 1 → Block from first end n → Eight K sums (λ t. P (from + t) 0)
+  pub column-settled : (from first end n : ℕ) (c₀ c after : List (K .Cell)) → v .cols ≡ 1 → Block 8 from first end n → Eight K sums (λ t. P (from + t) 0)
       → c ≡ updateRows K v everywhere (accumulate K f h P) first c₀ → after ≡ spanRows K v (accumulate K f h (λ i j. K .at sums (i - from))) first end c
       → after ≡ updateRows K v everywhere (accumulate K f h P) end c₀
   column-settled from first end n c₀ c after one b e p q =

@@ -90,11 +90,12 @@ module _ (plan : Plan) (la lb lc i from first end : ℕ) (b : BlockWithin plan l
 
 module _ (plan : Plan) (la lb lc : ℕ) (o : Paired plan la lb lc) (i : ℕ) (h : i < plan .target .rows) (wide : 8 ≤ plan .target .cols)
     (n : ℕ) (en : n ≡ plan .target .cols) (e : ℕ) (ee : e ≡ endCol (plan .uplo) i n) (j : ℕ) (l : j < e) where
-  pub block-asks : (j < n) × (8 ≤ n) × (n < 2 ^ 63)
+  pub block-asks : (j < n) × (8 ≤ n) × (n < 2 ^ 63) × (0 < 8)
   block-asks = (
     omega (arith, column-lt (plan .target) lc (o .target) i h n en (plan .uplo) e j ee l, en, o .target .cols),
     omega (arith, wide, en),
     omega (arith, en, o .target .fits .cols-le),
+    omega arith,
   )
 
   pub next-block : (lc' : ℕ) → lc' ≡ lc → (from stop : ℕ) → (from ≤ j) × (j < from + 8) × (from + 8 ≤ n) → (stop ≤ e) × (stop ≤ from + 8) × ((k : ℕ) → k < e → k < from + 8 → k < stop)

@@ -47,4 +47,4 @@ pub record Entry (plan : Plan) (la lb i j : ℕ) : Type 0 where
 pub record BlockWithin (plan : Plan) (la lb lc i from first end : ℕ) : Type 0 where
   pub paired : Paired plan la lb lc
   pub row : i < plan .target .rows
-  pub block : Block from first end (plan .target .cols)
+  pub block : Block 8 from first end (plan .target .cols)

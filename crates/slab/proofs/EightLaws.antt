@@ -1,4 +1,4 @@
--- An array of eight numbers, each replaced in its turn.
+-- An array of numbers, each replaced in its turn.
 use Prim.Native.Nat.{ℕ, _+_, _≤_, _<_}
 use mathlib.Core.List.{List}
 use mathlib.Core.Path.{_≡_, refl, sym, ap, subst, _∙_}
@@ -8,23 +8,26 @@ use lib.Ieee.{Float, Format, nan}
 use lib.ListN.{replicate, length-replicate, getD-replicate}
 use Rattle.number.specs.Kind.{Kind, real}
 use Rattle.number.specs.Laws.{SlabLaws}
-use Rattle.slab.specs.Eight.{Eight}
+use Rattle.slab.specs.Eight.{Eight, Lanes}
 
 -- the first t of them are f's, and the others are still as given
-pub record Part (K : Kind) (f : ℕ → K .Elem) (given s : List (K .Cell)) (t : ℕ) : Type 0 where
-  pub within : t ≤ 8
-  pub count : K .count s ≡ 8
+pub record PartOf (K : Kind) (n : ℕ) (f : ℕ → K .Elem) (given s : List (K .Cell)) (t : ℕ) : Type 0 where
+  pub within : t ≤ n
+  pub count : K .count s ≡ n
   pub done : (q : ℕ) → q < t → K .at s q ≡ f q
   pub rest : (q : ℕ) → t ≤ q → K .at s q ≡ K .at given q
 
-module _ (K : Kind) (L : SlabLaws K) (f : ℕ → K .Elem) (given : List (K .Cell)) where
-  pub part-start : K .count given ≡ 8 → Part K f given given 0
-  part-start n = record { within = omega arith; count = n; done = λ q l. absurd (none q l); rest = λ q l. refl }
+abbrev pub Part : (K : Kind) → (ℕ → K .Elem) → List (K .Cell) → List (K .Cell) → ℕ → Type 0
+Part K f given s t = PartOf K 8 f given s t
+
+module _ {n : ℕ} (K : Kind) (L : SlabLaws K) (f : ℕ → K .Elem) (given : List (K .Cell)) where
+  pub part-start : K .count given ≡ n → PartOf K n f given given 0
+  part-start e = record { within = omega arith; count = e; done = λ q l. absurd (none q l); rest = λ q l. refl }
     where
       none : (q : ℕ) → q < 0 → ⊥
       none q l = omega arith
 
-  pub part-next : (s : List (K .Cell)) (t : ℕ) (x : K .Elem) → t < 8 → Part K f given s t → x ≡ f t → Part K f given (K .put s t x) (t + 1)
+  pub part-next : (s : List (K .Cell)) (t : ℕ) (x : K .Elem) → t < n → PartOf K n f given s t → x ≡ f t → PartOf K n f given (K .put s t x) (t + 1)
   part-next s t x l h e =
       record {
         within = omega arith;
@@ -37,14 +40,14 @@ module _ (K : Kind) (L : SlabLaws K) (f : ℕ → K .Elem) (given : List (K .Cel
       apart q m d = omega arith
 
       go : (q : ℕ) → q < t + 1 → Dec (q ≡ t) → K .at (K .put s t x) q ≡ f q
-      go q m (yes d) = ap (K .at (K .put s t x)) d ∙ L .at-put s t x (subst (λ (n : ℕ). t < n) (sym (h .count)) l) ∙ e ∙ ap f (sym d)
+      go q m (yes d) = ap (K .at (K .put s t x)) d ∙ L .at-put s t x (subst (λ (m : ℕ). t < m) (sym (h .count)) l) ∙ e ∙ ap f (sym d)
       go q m (no d) = L .at-put-other s t q x d ∙ h .done q (omega arith)
 
-  pub part-end : (s : List (K .Cell)) (t : ℕ) → 8 ≤ t → Part K f given s t → Eight K s f
+  pub part-end : (s : List (K .Cell)) (t : ℕ) → n ≤ t → PartOf K n f given s t → Lanes K n s f
   part-end s t l h = record { count = h .count; sum = λ q m. h .done q (omega arith) }
 
--- what the eight are may be said in another way
-pub eight-same : (K : Kind) (s : List (K .Cell)) (f g : ℕ → K .Elem) → Eight K s f → ((t : ℕ) → t < 8 → f t ≡ g t) → Eight K s g
+-- what the sums are may be said in another way
+pub eight-same : {n : ℕ} (K : Kind) (s : List (K .Cell)) (f g : ℕ → K .Elem) → Lanes K n s f → ((t : ℕ) → t < n → f t ≡ g t) → Lanes K n s g
 eight-same K s f g h e = record { count = h .count; sum = λ t l. h .sum t l ∙ e t l }
 
 -- eight times the same number

@@ -1,8 +1,9 @@
-// Element access to a lent slab, for each number kind; eight sums side by side, and the columns that they take.
+// Element access to a lent slab, for each number kind; sums side by side, and the columns that they take.
 
 mod block;
 mod eight32;
 mod eight64;
+mod four;
 
 pub use block::block_end;
 pub use block::block_start;
@@ -12,6 +13,8 @@ pub use eight32::sub_eight32;
 pub use eight64::add_beside64;
 pub use eight64::add_eight64;
 pub use eight64::sub_eight64;
+pub use four::add_four;
+pub use four::sum_of_four;
 ghost use mathlib.Core.Path.{_≡_};
 ghost use Prim.Native.Nat.{_<_};
 ghost use Rattle.number.specs.Kind.{real64, real32, complex};

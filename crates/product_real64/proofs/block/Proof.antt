@@ -16,7 +16,7 @@ use Rattle.product_real64.proofs.block.Tie as tie
 returns : tie.Need-returns
 returns c =
     let p = c .before .before .before .before .before .before .before .before in
-    block-settled real64 (p .args .plan .target) (scaleBy64 (p .args .beta)) (real64 .mul (p .args .alpha .0)) (product real64 (p .args .plan) (now (p .args .a)) (now (p .args .b))) _ (p .args .i) (p .args .from) (p .args .first) (p .args .end) _ (now (p .args .c)) _ (p .pre .2)
+    block-settled real64 (p .args .plan .target) (scaleBy64 (p .args .beta)) (real64 .mul (p .args .alpha .0)) (product real64 (p .args .plan) (now (p .args .a)) (now (p .args .b))) _ _ (p .args .i) (p .args .from) (p .args .first) (p .args .end) _ (now (p .args .c)) _ (p .pre .2)
     (sums-whole real64 _ _ _ (eight-of binary64 _) (zero-literal binary64) _ _ (c .before .before .before .before .add-eight .ensures))
     (c .before .before .settle-block .ensures)
 
