@@ -3,13 +3,16 @@
 
 ghost use mathlib.Core.Path.{_≡_};
 ghost use mathlib.Core.Bool.{true, false};
-ghost use Prim.Native.Nat.{_<_, _-_};
+ghost use Prim.Native.Nat.{_+_, _-_, _<_, _≤_};
 ghost use Rattle.number.specs.Kind.{complex};
 ghost use Rattle.number.specs.Scaling.{scaleByComplex, times};
 ghost use Rattle.view.specs.Triangle.{inTriangle};
 ghost use Rattle.slab.specs.Run.{elemConj, plusTerms};
 ghost use Rattle.slab.specs.Elem.{lent, Within};
-ghost use Rattle.slab.specs.Update.{everywhere, replaced, updateRow, update};
+ghost use Rattle.view.specs.Steps.{Accepted};
+ghost use Rattle.slab.specs.Eight.{Lanes, Block};
+ghost use Rattle.slab.specs.Update.{everywhere, replaced, updateRow, update, span};
+ghost use Rattle.blas.specs.Matrix.{accumulate};
 ghost use Rattle.blas.specs.Outcome.{Gives};
 ghost use Rattle.blas.specs.Gemm;
 ghost use Rattle.blas.specs.Gemv;
@@ -19,7 +22,7 @@ ghost use Rattle.blas.specs.Herk;
 ghost use Rattle.blas.specs.Symm;
 ghost use Rattle.blas.specs.Syrk;
 ghost use Rattle.product_plan.specs.Plans.{ReadySided, sidedWork};
-ghost use Rattle.product_plan.specs.Plan.{term, planChange, foldedChange, termsBefore, FactorsWithin, PlanReady, FoldedReady, ByRow};
+ghost use Rattle.product_plan.specs.Plan.{term, planChange, foldedChange, termsBefore, FactorsWithin, PlanReady, FoldedReady, ByRow, product, Reads};
 use judge::check_gemm;
 use judge::check_gemv;
 use judge::check_hemm;
@@ -46,9 +49,12 @@ use product_plan::left_plan;
 use product_plan::right_plan;
 use product_plan::syrk_plan;
 use product_plan::turn_at;
+use slab::add_four;
+use slab::block_start;
 use slab::elem_complex;
 use slab::get_complex;
 use slab::put_complex;
+use slab::sum_of_four;
 use view::Answer;
 use view::Side;
 use view::Trans;
@@ -175,8 +181,8 @@ fn row(
     }
 }
 
-// The whole target.
-fn run(plan: Plan, a: &[f64], b: &[f64], alpha: Multiplier, beta: BetaComplex, c: &mut [f64])
+// The whole target, element by element.
+fn run_plain(plan: Plan, a: &[f64], b: &[f64], alpha: Multiplier, beta: BetaComplex, c: &mut [f64])
     requires { ⌜ PlanReady plan (complex .count (now a)) (complex .count (now b)) (complex .count (now c)) ⌝ }
     ensures { λ _. ⌜ now (c .exit) ≡ update complex (plan .target) everywhere (planChange complex plan (scaleByComplex beta) (times alpha) (now (a .entry)) (now (b .entry))) (now (c .entry)) ⌝ }
 {
@@ -185,6 +191,94 @@ fn run(plan: Plan, a: &[f64], b: &[f64], alpha: Multiplier, beta: BetaComplex, c
     while i < m {
         row(plan, a, b, alpha, beta, c, i);
         i += 1;
+    }
+}
+
+// The sums of elements (i, j) to (i, j + 3).
+fn four_sums(plan: Plan, a: &[f64], b: &[f64], i: usize, j: usize) -> [f64; 8]
+    requires { ⌜ Reads (plan .factors) (complex .count (now a)) (complex .count (now b)) (plan .target .rows) (plan .target .cols) (plan .terms) × (i < plan .target .rows) × (j + 4 ≤ plan .target .cols) ⌝ }
+    ensures { λ r. ⌜ Lanes complex 4 r (λ t. product complex plan (now (a .entry)) (now (b .entry)) i (j + t)) ⌝ }
+{
+    let f = plan.factors;
+    let n = plan.terms;
+    let mut sums = [0.0; 8];
+    let mut p = 0;
+    while p < n {
+        let x = at(f.left_conj, a, f.left, i, p);
+        let next = add_four(x, f.right_conj, b, f.right, p, j, sums);
+        sums = next;
+        p += 1;
+    }
+    sums
+}
+
+// Elements (i, first) to before (i, from + 4) of the target, with the sums of those from column `from` on.
+fn settle_four(
+    v: View,
+    alpha: Multiplier,
+    beta: BetaComplex,
+    c: &mut [f64],
+    i: usize,
+    from: usize,
+    first: usize,
+    sums: [f64; 8],
+)
+    requires { ⌜ Accepted v (complex .count (now c)) × (i < v .rows) × Block 4 from first (from + 4) (v .cols) ⌝ }
+    ensures { λ _. ⌜ now (c .exit) ≡ span complex v (accumulate complex (scaleByComplex beta) (times alpha) (λ i j. complex .at sums (j - from))) i first (from + 4) (now (c .entry)) ⌝ }
+{
+    let end = from + 4;
+    let mut j = first;
+    while j < end {
+        settle(v, alpha, beta, c, i, j, sum_of_four(sums, j - from));
+        j += 1;
+    }
+}
+
+// Row i of the target, four columns at a time.
+fn wide_row(
+    plan: Plan,
+    a: &[f64],
+    b: &[f64],
+    alpha: Multiplier,
+    beta: BetaComplex,
+    c: &mut [f64],
+    i: usize,
+)
+    requires { ⌜ PlanReady plan (complex .count (now a)) (complex .count (now b)) (complex .count (now c)) × (i < plan .target .rows) × (8 ≤ plan .target .cols) ⌝ }
+    ensures { λ _. ⌜ now (c .exit) ≡ updateRow complex (plan .target) everywhere (planChange complex plan (scaleByComplex beta) (times alpha) (now (a .entry)) (now (b .entry))) i (plan .target .cols) (now (c .entry)) ⌝ }
+{
+    let n = cols(plan.target);
+    let mut j = 0;
+    while j < n {
+        let from = block_start(4, j, n);
+        let sums = four_sums(plan, a, b, i, from);
+        settle_four(plan.target, alpha, beta, c, i, from, j, sums);
+        j = from + 4;
+    }
+}
+
+// The whole target, four columns at a time.
+fn run_wide(plan: Plan, a: &[f64], b: &[f64], alpha: Multiplier, beta: BetaComplex, c: &mut [f64])
+    requires { ⌜ PlanReady plan (complex .count (now a)) (complex .count (now b)) (complex .count (now c)) × (8 ≤ plan .target .cols) ⌝ }
+    ensures { λ _. ⌜ now (c .exit) ≡ update complex (plan .target) everywhere (planChange complex plan (scaleByComplex beta) (times alpha) (now (a .entry)) (now (b .entry))) (now (c .entry)) ⌝ }
+{
+    let m = rows(plan.target);
+    let mut i = 0;
+    while i < m {
+        wide_row(plan, a, b, alpha, beta, c, i);
+        i += 1;
+    }
+}
+
+// The whole target.
+fn run(plan: Plan, a: &[f64], b: &[f64], alpha: Multiplier, beta: BetaComplex, c: &mut [f64])
+    requires { ⌜ PlanReady plan (complex .count (now a)) (complex .count (now b)) (complex .count (now c)) ⌝ }
+    ensures { λ _. ⌜ now (c .exit) ≡ update complex (plan .target) everywhere (planChange complex plan (scaleByComplex beta) (times alpha) (now (a .entry)) (now (b .entry))) (now (c .entry)) ⌝ }
+{
+    if 8 <= cols(plan.target) {
+        run_wide(plan, a, b, alpha, beta, c);
+    } else {
+        run_plain(plan, a, b, alpha, beta, c);
     }
 }
 

@@ -11,14 +11,14 @@ use Rattle.view.specs.declared.View.{View}
 use Rattle.view.specs.Place.{index, transposedOf}
 use Rattle.slab.specs.Elem.{elem, Within}
 use Rattle.slab.specs.Eight.{Eight, Lanes, Block}
-use Rattle.slab.specs.Run.{plusTerms}
+use Rattle.slab.specs.Run.{elemConj, plusTerms}
 use Rattle.slab.specs.Update.{everywhere, span, spanRows, updateRows}
 use Rattle.slab.proofs.EightLaws.{eight-same}
 use Rattle.slab.proofs.LoopLaws.{span-same, rows-span-after}
 use Rattle.slab.proofs.Shown.{beside}
 use Rattle.blas.specs.Matrix.{Matrix, sum, accumulate}
 use Rattle.blas.proofs.OpLaws.{transposed-elem}
-use Rattle.blas.proofs.SumLaws.{sum-start, sum-end}
+use Rattle.blas.proofs.SumLaws.{sum-start, sum-next, sum-end}
 use Rattle.product_plan.specs.declared.plan.Factors.{Factors}
 use Rattle.product_plan.specs.declared.plan.Folded.{Folded}
 use Rattle.product_plan.specs.Plan.{term, termsBefore, turnedSum, foldedProduct, Turns}
@@ -54,17 +54,25 @@ module _ (r : Format) (f : Factors) (a b : List Float) (i j : ℕ) (x : ℕ → 
 
 -- ---- whole sums
 
-module _ (K : Kind) (g : ℕ → ℕ → K .Elem) (zeros : List (K .Cell)) (z : K .Elem) (none : Eight K zeros (λ t. z)) (e : z ≡ K .zero) where
-  pub sums-start : Eight K zeros (λ t. sum K 0 (g t))
+module _ {w : ℕ} (K : Kind) (g : ℕ → ℕ → K .Elem) (zeros : List (K .Cell)) (z : K .Elem) (none : Lanes K w zeros (λ t. z)) (e : z ≡ K .zero) where
+  pub sums-start : Lanes K w zeros (λ t. sum K 0 (g t))
   sums-start = eight-same K zeros _ _ none (λ t l. sum-start K (g t) z e)
 
   -- a run from 0 on is the sum
-  pub sums-whole : (s : List (K .Cell)) (n : ℕ) → Eight K s (λ t. plusTerms K (K .at zeros t) (g t) 0 (n - 0)) → Eight K s (λ t. sum K n (g t))
+  pub sums-whole : (s : List (K .Cell)) (n : ℕ) → Lanes K w s (λ t. plusTerms K (K .at zeros t) (g t) 0 (n - 0)) → Lanes K w s (λ t. sum K n (g t))
   sums-whole s n h = eight-same K s _ _ h (λ t l. sum-whole K (g t) (K .at zeros t) _ n (none .sum t l ∙ e) refl)
 
 -- a loop that is left at p has added n terms
-pub sums-end : (K : Kind) (g : ℕ → ℕ → K .Elem) (s : List (K .Cell)) (p n : ℕ) → p ≤ n → n ≤ p → Eight K s (λ t. sum K p (g t)) → Eight K s (λ t. sum K n (g t))
+pub sums-end : {w : ℕ} (K : Kind) (g : ℕ → ℕ → K .Elem) (s : List (K .Cell)) (p n : ℕ) → p ≤ n → n ≤ p → Lanes K w s (λ t. sum K p (g t)) → Lanes K w s (λ t. sum K n (g t))
 sums-end K g s p n h l e = eight-same K s _ _ e (λ t q. sum-end K (g t) p n _ h l refl)
+
+-- term p added to each sum of a row's elements from column j on: u is the left factor
+pub sums-next : {w : ℕ} (K : Kind) (f : Factors) (a b : List (K .Cell)) (i j p : ℕ) (sums next : List (K .Cell)) (u : K .Elem)
+    → Lanes K w sums (λ t. sum K p (term K f a b i (j + t))) → u ≡ elemConj K (f .«left_conj») a (f .left) i p
+    → Lanes K w next (λ t. K .add (K .at sums t) (K .mul u (elemConj K (f .«right_conj») b (f .right) p (j + t))))
+    → Lanes K w next (λ t. sum K (p + 1) (term K f a b i (j + t)))
+sums-next K f a b i j p sums next u e eu n =
+    eight-same K next _ _ n (λ t l. sum-next K (term K f a b i (j + t)) p (K .at sums t) _ _ (e .sum t l) (ap (λ z. K .mul z (elemConj K (f .«right_conj») b (f .right) p (j + t))) eu) refl)
 
 -- ---- the eight of a column from row i on: op(A)'s rows are its transpose's columns, and the factors are multiplied in the other order
 

@@ -1,12 +1,12 @@
 -- An array of numbers, each replaced in its turn.
-use Prim.Native.Nat.{ℕ, _+_, _≤_, _<_}
+use Prim.Native.Nat.{ℕ, _+_, _*_, _/_, _≤_, _<_}
 use mathlib.Core.List.{List}
 use mathlib.Core.Path.{_≡_, refl, sym, ap, subst, _∙_}
 use native.Mathlib.Decide.{ℕ-discrete}
 use native.Mathlib.Omega.{arith}
 use lib.Ieee.{Float, Format, nan}
 use lib.ListN.{replicate, length-replicate, getD-replicate}
-use Rattle.number.specs.Kind.{Kind, real}
+use Rattle.number.specs.Kind.{Kind, real, complex}
 use Rattle.number.specs.Laws.{SlabLaws}
 use Rattle.slab.specs.Eight.{Eight, Lanes}
 
@@ -53,3 +53,11 @@ eight-same K s f g h e = record { count = h .count; sum = λ t l. h .sum t l ∙
 -- eight times the same number
 pub eight-of : (r : Format) (x : Float) → Eight (real r) (replicate 8 x) (λ t. x)
 eight-of r x = record { count = length-replicate 8 x; sum = λ t l. getD-replicate 8 t x nan l }
+
+-- eight equal floats are four equal complex numbers
+pub four-of : (x : Float) → Lanes complex 4 (replicate 8 x) (λ t. record { re = x; im = x })
+four-of x =
+    record {
+      count = ap (λ (n : ℕ). n / 2) (length-replicate 8 x);
+      sum = λ t l. λ i. record { re = getD-replicate 8 (2 * t) x nan (omega arith) i; im = getD-replicate 8 (2 * t + 1) x nan (omega arith) i };
+    }

@@ -8,8 +8,8 @@ use Rattle.slab.specs.Update.{everywhere, updateRows}
 use Rattle.slab.proofs.LoopLaws.{rows-next, rows-last}
 use Rattle.product_plan.specs.Plan.{planChange}
 use Rattle.product_plan.proofs.Ready.{ready-kept}
-use Rattle.product_complex.proofs.run.Statement.{statement}
-use Rattle.product_complex.proofs.run.Tie as tie
+use Rattle.product_complex.proofs.run_wide.Statement.{statement}
+use Rattle.product_complex.proofs.run_wide.Tie as tie
 
 abbrev Inv-loop : tie.InvT-loop
 Inv-loop plan a b alpha beta c₀ m i₀ c i = (i ≤ m) × (length c ≡ length c₀) × (c ≡ updateRows complex (plan .target) everywhere (planChange complex plan (scaleByComplex beta) (times alpha) a b) i c₀)
@@ -24,8 +24,8 @@ loop-holds : tie.Need-loop-holds Inv-loop μ-loop
 unfolding updateRows
 loop-holds c = (omega arith, refl, refl)
 
-row-requires : tie.Need-row-requires Inv-loop μ-loop
-row-requires c κs = (ready-kept _ _ _ _ _ (ap (λ (k : ℕ). k / 2) (c .before .before .loop .inv .1)) (c .before .before .before .before .before .before .before .pre), omega (arith, c .before .before .before .rows .ensures))
+wide-row-requires : tie.Need-wide-row-requires Inv-loop μ-loop
+wide-row-requires c κs = (ready-kept _ _ _ _ _ (ap (λ (k : ℕ). k / 2) (c .before .before .loop .inv .1)) (c .before .before .before .before .before .before .before .pre .0), omega (arith, c .before .before .before .rows .ensures), c .before .before .before .before .before .before .before .pre .1)
 
 add-i : tie.Need-add-i Inv-loop μ-loop
 add-i c = omega arith
@@ -34,7 +34,7 @@ loop-less : tie.Need-loop-less Inv-loop μ-loop
 loop-less c = omega arith
 
 loop-again : tie.Need-loop-again Inv-loop μ-loop
-loop-again c = (omega arith, c .before .before .row .kept .1 .1 .1 .1 .1 .0 ∙ c .before .before .before .before .before .loop .inv .1, rows-next _ _ _ _ _ _ _ _ (c .before .before .before .before .before .loop .inv .2) (c .before .before .row .ensures))
+loop-again c = (omega arith, c .before .before .wide-row .kept .1 .1 .1 .1 .1 .0 ∙ c .before .before .before .before .before .loop .inv .1, rows-next _ _ _ _ _ _ _ _ (c .before .before .before .before .before .loop .inv .2) (c .before .before .wide-row .ensures))
 
 same-length : tie.Need-same-length Inv-loop μ-loop
 same-length c = c .before .loop .inv .1
@@ -42,15 +42,15 @@ same-length c = c .before .loop .inv .1
 returns : tie.Need-returns Inv-loop μ-loop
 returns c = rows-last _ _ _ _ _ _ _ _ (c .before .before .rows .ensures) (c .before .loop .inv .0) (omega arith) (c .before .loop .inv .2)
 
-pub run-spec : {M : Type 1} → statement M
-run-spec =
+pub run-wide-spec : {M : Type 1} → statement M
+run-wide-spec =
     tie.close
     (tie.spec
     Inv-loop
     μ-loop
     rows-requires
     loop-holds
-    row-requires
+    wide-row-requires
     add-i
     loop-less
     loop-again

@@ -1,0 +1,62 @@
+-- Block after block is the row so far (Eights: block-settled).
+use Prim.Native.Nat.{ℕ, _≤_, _+_, _-_, _/_}
+use mathlib.Core.Path.{_≡_, refl, ap, _∙_}
+use native.Mathlib.Omega.{arith}
+use lib.ListN.{length}
+use denote.Ref.{now}
+use Rattle.number.specs.Kind.{complex}
+use Rattle.number.specs.Scaling.{scaleByComplex, times}
+use Rattle.slab.specs.Update.{everywhere, updateRow}
+use Rattle.slab.proofs.LoopLaws.{row-last, span-after}
+use Rattle.product_plan.specs.Plan.{product, planChange}
+use Rattle.product_plan.proofs.Ready.{ready-kept}
+use Rattle.product_plan.proofs.Eights.{block-settled}
+use Rattle.product_complex.proofs.wide_row.Statement.{statement}
+use Rattle.product_complex.proofs.wide_row.Tie as tie
+
+abbrev Inv-loop : tie.InvT-loop
+Inv-loop plan a b alpha beta c₀ i n j₀ c j = (j ≤ n) × (length c ≡ length c₀) × (c ≡ updateRow complex (plan .target) everywhere (planChange complex plan (scaleByComplex beta) (times alpha) a b) i j c₀)
+
+abbrev μ-loop : tie.MeasureT-loop
+μ-loop plan a b alpha beta c₀ i n j₀ c j = n - j
+
+loop-holds : tie.Need-loop-holds Inv-loop μ-loop
+unfolding updateRow
+loop-holds c = (omega arith, refl, refl)
+
+settle-four-requires : tie.Need-settle-four-requires Inv-loop μ-loop
+settle-four-requires c κs =
+    let r = c .before .before .before .before .before .before .before .before .before .pre in
+    let s = c .before .before .block-start .ensures in
+    (ready-kept _ _ _ _ _ (ap (λ (k : ℕ). k / 2) (c .before .before .before .before .loop .inv .1)) (r .0) .target, r .1, record { begins = s .0; ordered = omega (arith, s .1); ends = omega arith; within = omega (arith, s .2, c .before .before .before .before .before .cols .ensures) })
+
+loop-again : tie.Need-loop-again Inv-loop μ-loop
+loop-again c =
+    let p = c .before .before .before .before .before .before .before .before .before .before .before .before in
+    let l = c .before .before .before .before .before .before .before .loop in
+    let s = c .before .before .before .before .before .block-start in (
+      omega (arith, s .ensures .2),
+      c .before .before .settle-four .kept .1 .1 .1 .0 ∙ l .inv .1,
+      span-after complex _ _ _ everywhere (l .j) _ _ _ _ (omega (arith, s .ensures .1)) (λ j h g. refl) (l .inv .2)
+          (block-settled complex (p .args .plan .target) (scaleByComplex (p .args .beta)) (times (p .args .alpha)) (product complex (p .args .plan) (now (p .args .a)) (now (p .args .b))) _ 4 (p .args .i) (s .result) (l .j) (s .result + 4) (p .args .plan .target .cols) _ _
+          (record { begins = s .ensures .0; ordered = omega (arith, s .ensures .1); ends = omega arith; within = omega (arith, s .ensures .2, c .before .before .before .before .before .before .before .before .cols .ensures) })
+          (c .before .before .before .before .four-sums .ensures)
+          (c .before .before .settle-four .ensures)),
+    )
+
+pub wide-row-spec : {M : Type 1} → statement M
+wide-row-spec =
+    tie.close
+    (tie.spec
+    Inv-loop
+    μ-loop
+    (λ c κs. tt)
+    loop-holds
+    (λ c κs. let r = c .before .before .before .before .before .before .pre in (omega arith, omega (arith, r .2, c .before .before .cols .ensures), omega (arith, r .0 .target .cols-le, c .before .before .cols .ensures), omega arith))
+    (λ c κs. let r = c .before .before .before .before .before .before .before .pre in (r .0 .reads, r .1, omega (arith, c .block-start .ensures .2, c .before .before .before .cols .ensures)))
+    settle-four-requires
+    (λ c. omega (arith, c .before .before .before .before .before .block-start .ensures .2))
+    (λ c. omega (arith, c .before .before .before .before .before .block-start .ensures .1, c .before .before .before .before .before .block-start .ensures .2))
+    loop-again
+    (λ c. c .before .loop .inv .1)
+    (λ c. row-last _ _ _ _ _ _ _ _ _ (c .before .before .cols .ensures) (c .before .loop .inv .0) (omega arith) (c .before .loop .inv .2)))
