@@ -2,7 +2,6 @@
 pub mod WalkLaws
 pub mod InOrder
 pub mod Systems
-pub mod PlaceLaws
 pub mod Judged
 pub mod Lines
 pub mod Solves

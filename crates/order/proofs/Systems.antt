@@ -65,10 +65,6 @@ lines-index Right v p l = transposed-index v p l
 pub lines-elem : (K : Kind) (s : List (K .Cell)) (side : Side) (v : View) (p l : ℕ) → elem K s (linesView side v) p l ≡ unknown K side s v p l
 lines-elem K s side v p l = ap (K .at s) (lines-index side v p l)
 
--- a row is not the one past the last
-pub not-past : (p m : ℕ) → p < m → p ≡ m → ⊥
-not-past p m h e = omega arith
-
 -- a product of what was read
 pub weighed : (K : Kind) (c c' x x' z : K .Elem) → c ≡ c' → x ≡ x' → z ≡ K .mul c x → z ≡ K .mul c' x'
 weighed K c c' x x' z h g e = e ∙ (λ i. K .mul (h i) (g i))

@@ -14,10 +14,6 @@ module _ {A : Type 0} (f : ℕ → A → A) (s₀ : A) where
   unfolding walk
   walk-next n s t h e = rw add-one (e ∙ ap (f n) h)
 
-  pub walk-one : (s : A) → s ≡ f 0 s₀ → s ≡ walk 1 f s₀
-  unfolding walk
-  walk-one s e = e
-
   -- a loop that is left at i has made n steps
   pub walk-end : (i n : ℕ) (s : A) → i ≤ n → n ≤ i → s ≡ walk i f s₀ → s ≡ walk n f s₀
   walk-end i n s h g e =

@@ -4,4 +4,3 @@ pub mod Triangles
 pub mod Solve
 pub mod Multiply
 pub mod Ready
-pub mod Places

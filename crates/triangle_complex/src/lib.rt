@@ -4,13 +4,12 @@
 ghost use mathlib.Core.Path.{_≡_};
 ghost use Prim.Native.Nat.{_≤_, _<_};
 ghost use Rattle.number.specs.Kind.{complex};
-ghost use Rattle.view.specs.Place.{index};
 ghost use Rattle.view.specs.Steps.{Accepted};
 ghost use Rattle.slab.specs.Elem.{elem, lent, Within};
 ghost use Rattle.slab.specs.Run.{elemConj, plusTerms, Spans};
 ghost use Rattle.slab.specs.Update.{updateOne, updateRow, everywhere};
 ghost use Rattle.blas.specs.Outcome.{Gives};
-ghost use Rattle.blas.specs.Substitution.{minusTerms, inOrder};
+ghost use Rattle.blas.specs.Substitution.{minusTerms};
 ghost use Rattle.blas.specs.Trsm.{timesAlpha, sidedSolve};
 ghost use Rattle.blas.specs.Trsm;
 ghost use Rattle.blas.specs.Trsv;
@@ -21,7 +20,6 @@ ghost use Rattle.order.specs.Triangles as triangles;
 ghost use Rattle.order.specs.Triangles.{timesIf};
 ghost use Rattle.order.specs.Solve as solve;
 ghost use Rattle.order.specs.Multiply as multiply;
-ghost use Rattle.order.specs.Places.{PlacesAt, Begins};
 ghost use Rattle.order.specs.Ready.{Pivots, Ready, ReadyAt, Sided};
 use judge::check_trmm;
 use judge::check_trmv;
@@ -30,44 +28,27 @@ use judge::check_trsv;
 use judge::quick_trmm;
 use judge::quick_trmv;
 use number::Complex;
-use order::Places;
 use order::System;
 use order::in_order;
 use order::is_left;
 use order::least_solved;
 use order::lines_solved;
-use order::onward;
-use order::places_of;
 use order::solved;
-use order::steps_of;
 use order::stops;
 use order::system_of;
 use slab::elem_complex;
-use slab::get_complex;
 use slab::put_complex;
-use std::num::wrapping_add_usize;
 use view::Answer;
 use view::Diag;
 use view::Side;
 use view::Trans;
 use view::UpLo;
 use view::View;
-use view::col_step;
 use view::cols;
 use view::column;
 use view::passed;
 use view::place;
-use view::row_step;
 use view::rows;
-
-// Element (i, j) of a view, at place k, conjugated or not.
-fn read(conjugated: bool, s: &[f64], v: View, i: usize, j: usize, k: usize) -> Complex
-    requires { ⌜ Within v (complex .count (now s)) i j × (k ≡ index v i j) ⌝ }
-    ensures { λ r. ⌜ r ≡ elemConj complex conjugated (now (s .entry)) v i j ⌝ }
-{
-    let x = get_complex(s, k);
-    if conjugated { x.conj() } else { x }
-}
 
 // Element (i, j) of a view, conjugated or not.
 fn at(conjugated: bool, s: &[f64], v: View, i: usize, j: usize) -> Complex
@@ -130,32 +111,24 @@ fn add_run(
     sum
 }
 
-// x divided by pivot q, which is at place `pivot`.
-fn by_pivot(
-    diag: Diag,
-    conjugated: bool,
-    a: &[f64],
-    va: View,
-    q: usize,
-    pivot: usize,
-    x: Complex,
-) -> Complex
-    requires { ⌜ Within va (complex .count (now a)) q q × (pivot ≡ index va q q) ⌝ }
+// x divided by pivot q.
+fn by_pivot(diag: Diag, conjugated: bool, a: &[f64], va: View, q: usize, x: Complex) -> Complex
+    requires { ⌜ Within va (complex .count (now a)) q q ⌝ }
     ensures { λ r. ⌜ r ≡ solve.byDiag complex diag (elemConj complex conjugated (now (a .entry)) va q q) x ⌝ }
 {
     match diag {
-        Diag::NonUnit => x.div(read(conjugated, a, va, q, q, pivot)),
+        Diag::NonUnit => x.div(at(conjugated, a, va, q, q)),
         Diag::Unit => x,
     }
 }
 
-// Whether pivot q, which is at place `pivot`, is zero.
-fn zero_pivot(diag: Diag, a: &[f64], va: View, q: usize, pivot: usize) -> bool
-    requires { ⌜ Within va (complex .count (now a)) q q × (pivot ≡ index va q q) ⌝ }
+// Whether pivot q is zero.
+fn zero_pivot(diag: Diag, a: &[f64], va: View, q: usize) -> bool
+    requires { ⌜ Within va (complex .count (now a)) q q ⌝ }
     ensures { λ r. ⌜ r ≡ solve.zeroDiag complex diag (elem complex (now (a .entry)) va q q) ⌝ }
 {
     match diag {
-        Diag::NonUnit => get_complex(a, pivot).is_zero(),
+        Diag::NonUnit => elem_complex(a, va, q, q).is_zero(),
         Diag::Unit => false,
     }
 }
@@ -178,117 +151,32 @@ fn solve_one(sys: System, times: bool, alpha: Complex, a: &[f64], b: &mut [f64],
     let from = least_solved(sys.last, m, k);
     let x = times_if(times, alpha, elem_complex(b, sys.b, q, l));
     let rest = reduce(sys.conjugated, a, sys.a, b, sys.b, q, l, from, k, x);
-    let y = by_pivot(diag, sys.conjugated, a, sys.a, q, place(sys.a, q, q), rest);
+    let y = by_pivot(diag, sys.conjugated, a, sys.a, q, rest);
     put_complex(b, place(sys.b, q, l), y);
 }
 
-// x less the term of row q of a and a vector at p, whose factors are at places c and u.
-fn less_at(
-    conjugated: bool,
-    a: &[f64],
-    va: View,
-    b: &[f64],
-    vb: View,
-    q: usize,
-    p: usize,
-    c: usize,
-    u: usize,
-    x: Complex,
-) -> Complex
-    requires { ⌜ Within va (complex .count (now a)) q p × Within vb (complex .count (now b)) p 0 × (c ≡ index va q p) × (u ≡ index vb p 0) ⌝ }
-    ensures { λ r. ⌜ r ≡ complex .sub x (complex .mul (elemConj complex conjugated (now (a .entry)) va q p) (elem complex (now (b .entry)) vb p 0)) ⌝ }
-{
-    x.sub(read(conjugated, a, va, q, p, c).mul(get_complex(b, u)))
-}
-
-// x less n such terms of a vector, the first from places `first` and `solved` on.
-fn reduce_along(
-    conjugated: bool,
-    a: &[f64],
-    va: View,
-    b: &[f64],
-    vb: View,
-    q: usize,
-    from: usize,
-    n: usize,
-    x: Complex,
-    first: usize,
-    solved: usize,
-) -> Complex
-    requires { ⌜ Spans va (complex .count (now a)) vb (complex .count (now b)) q 0 from n × Begins va vb q from n first solved ⌝ }
-    ensures { λ r. ⌜ r ≡ minusTerms complex x (λ p. complex .mul (elemConj complex conjugated (now (a .entry)) va q p) (elem complex (now (b .entry)) vb p 0)) from n ⌝ }
-{
-    let along = col_step(va);
-    let down = row_step(vb);
-    let mut rest = x;
-    let mut c = first;
-    let mut u = solved;
-    let mut i = 0;
-    while i < n {
-        rest = less_at(conjugated, a, va, b, vb, q, from + i, c, u, rest);
-        c = wrapping_add_usize(c, along);
-        u = wrapping_add_usize(u, down);
-        i += 1;
-    }
-    rest
-}
-
-// The unknown of a vector that comes after k others, at these places, solved.
-fn solve_next(sys: System, a: &[f64], b: &mut [f64], k: usize, at: Places)
-    requires { ⌜ ReadyAt sys (complex .count (now a)) (complex .count (now b)) k 0 × PlacesAt (sys .last) sys k at ⌝ }
-    ensures { λ _. ⌜ now (b .exit) ≡ solve.solveUnknown complex sys (λ x. x) (now (a .entry)) k 0 (now (b .entry)) ⌝ }
-{
-    let diag = sys.diag;
-    let m = rows(sys.b);
-    let q = in_order(sys.last, m, k);
-    let from = least_solved(sys.last, m, k);
-    let own = at.own;
-    let x = get_complex(b, own);
-    let rest = reduce_along(
-        sys.conjugated,
-        a,
-        sys.a,
-        b,
-        sys.b,
-        q,
-        from,
-        k,
-        x,
-        at.first,
-        at.solved,
-    );
-    let y = by_pivot(diag, sys.conjugated, a, sys.a, q, at.pivot, rest);
-    put_complex(b, own, y);
-}
-
-// Whether the pivot of the unknown that comes after k others, which is at place `pivot`, is zero.
-fn meets_zero(sys: System, a: &[f64], k: usize, pivot: usize) -> bool
-    requires { ⌜ Pivots sys (complex .count (now a)) × (k < sys .b .rows) × (pivot ≡ index (sys .a) (inOrder (sys .last) (sys .b .rows) k) (inOrder (sys .last) (sys .b .rows) k)) ⌝ }
+// Whether the pivot of the unknown that comes after k others is zero.
+fn meets_zero(sys: System, a: &[f64], k: usize) -> bool
+    requires { ⌜ Pivots sys (complex .count (now a)) × (k < sys .b .rows) ⌝ }
     ensures { λ r. ⌜ r ≡ solve.zeroAfter complex sys (now (a .entry)) k ⌝ }
 {
     let diag = sys.diag;
     let q = in_order(sys.last, rows(sys.b), k);
-    zero_pivot(diag, a, sys.a, q, pivot)
+    zero_pivot(diag, a, sys.a, q)
 }
 
-// The unknowns of a vector, up to the first zero pivot.
+// The unknowns of a vector, which no alpha multiplies, up to the first zero pivot.
 fn solve_vector(sys: System, a: &[f64], b: &mut [f64]) -> Answer
     requires { ⌜ Ready sys (complex .count (now a)) (complex .count (now b)) × (sys .b .cols ≡ 1) ⌝ }
     ensures { λ r. ⌜ solve.Solved complex sys (λ x. x) (now (a .entry)) (now (b .entry)) r (now (b .exit)) ⌝ }
 {
     let n = rows(sys.b);
-    if n == 0 {
-        return Answer::Done;
-    }
-    let by = steps_of(sys);
-    let mut at = places_of(sys);
     let mut k = 0;
     while k < n {
-        if meets_zero(sys, a, k, at.pivot) {
+        if meets_zero(sys, a, k) {
             return Answer::Singular;
         }
-        solve_next(sys, a, b, k, at);
-        at = onward(at, by);
+        solve_one(sys, false, Complex::ONE, a, b, k, 0);
         k += 1;
     }
     Answer::Done
@@ -302,8 +190,7 @@ fn first_zero(sys: System, a: &[f64]) -> usize
     let m = rows(sys.b);
     let mut k = 0;
     while k < m {
-        let q = in_order(sys.last, m, k);
-        if meets_zero(sys, a, k, place(sys.a, q, q)) {
+        if meets_zero(sys, a, k) {
             return k;
         }
         k += 1;

@@ -4,14 +4,12 @@
 ghost use mathlib.Core.Path.{_≡_};
 ghost use Prim.Native.Nat.{_≤_, _<_};
 ghost use Rattle.number.specs.Kind.{real32};
-ghost use Rattle.view.specs.Place.{index};
 ghost use Rattle.view.specs.Steps.{Accepted};
-ghost use Rattle.slab.specs.Distinct.{Distinct};
 ghost use Rattle.slab.specs.Elem.{elem, lent, Within};
 ghost use Rattle.slab.specs.Run.{elemConj, plusTerms, Spans};
 ghost use Rattle.slab.specs.Update.{updateOne, updateRow, everywhere};
 ghost use Rattle.blas.specs.Outcome.{Gives};
-ghost use Rattle.blas.specs.Substitution.{minusTerms, inOrder};
+ghost use Rattle.blas.specs.Substitution.{minusTerms};
 ghost use Rattle.blas.specs.Trsm.{timesAlpha, sidedSolve};
 ghost use Rattle.blas.specs.Trsm;
 ghost use Rattle.blas.specs.Trsv;
@@ -20,7 +18,6 @@ ghost use Rattle.blas.specs.Trmv;
 ghost use Rattle.order.specs.Walk.{walk};
 ghost use Rattle.order.specs.Solve as solve;
 ghost use Rattle.order.specs.Multiply as multiply;
-ghost use Rattle.order.specs.Places.{PlacesAt, Begins, Ends};
 ghost use Rattle.order.specs.Ready.{Pivots, Ready, ReadyAt, Sided};
 use judge::check_trmm;
 use judge::check_trmv;
@@ -29,42 +26,26 @@ use judge::check_trsv;
 use judge::quick_trmm;
 use judge::quick_trmv;
 use number::Real32;
-use order::Places;
 use order::System;
 use order::in_order;
 use order::least_solved;
 use order::lines_solved;
-use order::onward;
-use order::places_of;
 use order::solved;
-use order::steps_of;
 use order::stops;
 use order::system_of;
 use slab::elem32;
-use slab::get32;
 use slab::put32;
-use std::num::wrapping_add_usize;
 use view::Answer;
 use view::Diag;
 use view::Side;
 use view::Trans;
 use view::UpLo;
 use view::View;
-use view::col_step;
 use view::cols;
 use view::column;
 use view::passed;
 use view::place;
-use view::row_step;
 use view::rows;
-
-// Element (i, j) of a view, at place k: a real number is its own conjugate.
-fn read(conjugated: bool, s: &[f32], v: View, i: usize, j: usize, k: usize) -> Real32
-    requires { ⌜ Within v (real32 .count (now s)) i j × (k ≡ index v i j) ⌝ }
-    ensures { λ r. ⌜ r .0 ≡ elemConj real32 conjugated (now (s .entry)) v i j ⌝ }
-{
-    get32(s, k)
-}
 
 // Element (i, j) of a view: a real number is its own conjugate.
 fn at(conjugated: bool, s: &[f32], v: View, i: usize, j: usize) -> Real32
@@ -74,27 +55,7 @@ fn at(conjugated: bool, s: &[f32], v: View, i: usize, j: usize) -> Real32
     elem32(s, v, i, j)
 }
 
-// x less the term of row q by column l at p.
-fn less_term(
-    conjugated: bool,
-    a: &[f32],
-    va: View,
-    b: &[f32],
-    vb: View,
-    q: usize,
-    l: usize,
-    p: usize,
-    x: f32,
-) -> f32
-    requires { ⌜ Within va (real32 .count (now a)) q p × Within vb (real32 .count (now b)) p l ⌝ }
-    ensures { λ r. ⌜ r ≡ real32 .sub x (real32 .mul (elemConj real32 conjugated (now (a .entry)) va q p) (elem real32 (now (b .entry)) vb p l)) ⌝ }
-{
-    Real32(x)
-        .sub(at(conjugated, a, va, q, p).mul(elem32(b, vb, p, l)))
-        .0
-}
-
-// x less n such terms, from `from` on, two of them in a round.
+// x less n terms of row q by column l, from `from` on.
 fn reduce(
     conjugated: bool,
     a: &[f32],
@@ -110,20 +71,16 @@ fn reduce(
     requires { ⌜ Spans va (real32 .count (now a)) vb (real32 .count (now b)) q l from n ⌝ }
     ensures { λ r. ⌜ r ≡ minusTerms real32 x (λ p. real32 .mul (elemConj real32 conjugated (now (a .entry)) va q p) (elem real32 (now (b .entry)) vb p l)) from n ⌝ }
 {
-    let pairs = n / 2;
     let mut rest = x;
     let mut i = 0;
-    while i < pairs {
-        let k = 2 * i;
-        rest = less_term(conjugated, a, va, b, vb, q, l, from + k, rest);
-        rest = less_term(conjugated, a, va, b, vb, q, l, from + (k + 1), rest);
+    while i < n {
+        let p = from + i;
+        rest = Real32(rest)
+            .sub(at(conjugated, a, va, q, p).mul(elem32(b, vb, p, l)))
+            .0;
         i += 1;
     }
-    if 2 * i < n {
-        less_term(conjugated, a, va, b, vb, q, l, from + 2 * i, rest)
-    } else {
-        rest
-    }
+    rest
 }
 
 // x and n such terms more.
@@ -146,10 +103,6 @@ fn add_run(
     let mut i = 0;
     while i < n {
         let p = from + i;
-        // Never so: p is a row of b. A loop with two ways out is not unrolled, which serves short sums.
-        if p == vb.rows {
-            return sum;
-        }
         sum = Real32(sum)
             .add(at(conjugated, a, va, q, p).mul(elem32(b, vb, p, l)))
             .0;
@@ -158,32 +111,24 @@ fn add_run(
     sum
 }
 
-// x divided by pivot q, which is at place `pivot`.
-fn by_pivot(
-    diag: Diag,
-    conjugated: bool,
-    a: &[f32],
-    va: View,
-    q: usize,
-    pivot: usize,
-    x: f32,
-) -> f32
-    requires { ⌜ Within va (real32 .count (now a)) q q × (pivot ≡ index va q q) ⌝ }
+// x divided by pivot q.
+fn by_pivot(diag: Diag, conjugated: bool, a: &[f32], va: View, q: usize, x: f32) -> f32
+    requires { ⌜ Within va (real32 .count (now a)) q q ⌝ }
     ensures { λ r. ⌜ r ≡ solve.byDiag real32 diag (elemConj real32 conjugated (now (a .entry)) va q q) x ⌝ }
 {
     match diag {
-        Diag::NonUnit => Real32(x).div(read(conjugated, a, va, q, q, pivot)).0,
+        Diag::NonUnit => Real32(x).div(at(conjugated, a, va, q, q)).0,
         Diag::Unit => x,
     }
 }
 
-// Whether pivot q, which is at place `pivot`, is zero.
-fn zero_pivot(diag: Diag, a: &[f32], va: View, q: usize, pivot: usize) -> bool
-    requires { ⌜ Within va (real32 .count (now a)) q q × (pivot ≡ index va q q) ⌝ }
+// Whether pivot q is zero.
+fn zero_pivot(diag: Diag, a: &[f32], va: View, q: usize) -> bool
+    requires { ⌜ Within va (real32 .count (now a)) q q ⌝ }
     ensures { λ r. ⌜ r ≡ solve.zeroDiag real32 diag (elem real32 (now (a .entry)) va q q) ⌝ }
 {
     match diag {
-        Diag::NonUnit => get32(a, pivot).is_zero(),
+        Diag::NonUnit => elem32(a, va, q, q).is_zero(),
         Diag::Unit => false,
     }
 }
@@ -199,7 +144,7 @@ fn left_one(sys: System, alpha: Real32, a: &[f32], b: &mut [f32], k: usize, l: u
     let from = least_solved(sys.last, m, k);
     let x = alpha.mul(elem32(b, sys.b, q, l)).0;
     let rest = reduce(sys.conjugated, a, sys.a, b, sys.b, q, l, from, k, x);
-    let y = by_pivot(diag, sys.conjugated, a, sys.a, q, place(sys.a, q, q), rest);
+    let y = by_pivot(diag, sys.conjugated, a, sys.a, q, rest);
     put32(b, place(sys.b, q, l), Real32(y));
 }
 
@@ -214,160 +159,35 @@ fn right_one(sys: System, a: &[f32], b: &mut [f32], k: usize, l: usize)
     let from = least_solved(sys.last, m, k);
     let x = elem32(b, sys.b, q, l).0;
     let rest = reduce(sys.conjugated, a, sys.a, b, sys.b, q, l, from, k, x);
-    let y = by_pivot(diag, sys.conjugated, a, sys.a, q, place(sys.a, q, q), rest);
+    let y = by_pivot(diag, sys.conjugated, a, sys.a, q, rest);
     put32(b, place(sys.b, q, l), Real32(y));
 }
 
-// x less the term of row q of a and a vector at p, whose factors are at places c and u.
-fn less_at(
-    conjugated: bool,
-    a: &[f32],
-    va: View,
-    b: &[f32],
-    vb: View,
-    q: usize,
-    p: usize,
-    c: usize,
-    u: usize,
-    x: f32,
-) -> f32
-    requires { ⌜ Within va (real32 .count (now a)) q p × Within vb (real32 .count (now b)) p 0 × (c ≡ index va q p) × (u ≡ index vb p 0) ⌝ }
-    ensures { λ r. ⌜ r ≡ real32 .sub x (real32 .mul (elemConj real32 conjugated (now (a .entry)) va q p) (elem real32 (now (b .entry)) vb p 0)) ⌝ }
-{
-    Real32(x)
-        .sub(read(conjugated, a, va, q, p, c).mul(get32(b, u)))
-        .0
-}
-
-// x less n such terms of a vector, from places `first` and `solved` on, with `stop` one step past the last unknown. The compiler does not know how
-// many there are and does not unroll the loop, which serves short sums.
-fn reduce_along(
-    conjugated: bool,
-    a: &[f32],
-    va: View,
-    b: &[f32],
-    vb: View,
-    q: usize,
-    from: usize,
-    n: usize,
-    x: f32,
-    first: usize,
-    solved: usize,
-    stop: usize,
-) -> f32
-    requires { ⌜ Spans va (real32 .count (now a)) vb (real32 .count (now b)) q 0 from n × Begins va vb q from n first solved × Ends vb from n solved stop ⌝ }
-    ensures { λ r. ⌜ r ≡ minusTerms real32 x (λ p. real32 .mul (elemConj real32 conjugated (now (a .entry)) va q p) (elem real32 (now (b .entry)) vb p 0)) from n ⌝ }
-{
-    let along = col_step(va);
-    let down = row_step(vb);
-    let mut rest = x;
-    let mut c = first;
-    let mut u = solved;
-    let mut i = 0;
-    while u != stop {
-        rest = less_at(conjugated, a, va, b, vb, q, from + i, c, u, rest);
-        c = wrapping_add_usize(c, along);
-        u = wrapping_add_usize(u, down);
-        i += 1;
-    }
-    rest
-}
-
-// The unknown of a vector that comes after k others, at these places, solved.
-fn solve_next(sys: System, a: &[f32], b: &mut [f32], k: usize, at: Places)
-    requires { ⌜ ReadyAt sys (real32 .count (now a)) (real32 .count (now b)) k 0 × PlacesAt (sys .last) sys k at × Distinct (sys .b) ⌝ }
-    ensures { λ _. ⌜ now (b .exit) ≡ solve.solveUnknown real32 sys (λ x. x) (now (a .entry)) k 0 (now (b .entry)) ⌝ }
-{
-    let diag = sys.diag;
-    let m = rows(sys.b);
-    let q = in_order(sys.last, m, k);
-    let from = least_solved(sys.last, m, k);
-    let own = at.own;
-    let x = get32(b, own).0;
-    let rest = reduce_along(
-        sys.conjugated,
-        a,
-        sys.a,
-        b,
-        sys.b,
-        q,
-        from,
-        k,
-        x,
-        at.first,
-        at.solved,
-        at.stop,
-    );
-    let y = by_pivot(diag, sys.conjugated, a, sys.a, q, at.pivot, rest);
-    put32(b, own, Real32(y));
-}
-
-// Whether the pivot of the unknown that comes after k others, which is at place `pivot`, is zero.
-fn meets_zero(sys: System, a: &[f32], k: usize, pivot: usize) -> bool
-    requires { ⌜ Pivots sys (real32 .count (now a)) × (k < sys .b .rows) × (pivot ≡ index (sys .a) (inOrder (sys .last) (sys .b .rows) k) (inOrder (sys .last) (sys .b .rows) k)) ⌝ }
+// Whether the pivot of the unknown that comes after k others is zero.
+fn meets_zero(sys: System, a: &[f32], k: usize) -> bool
+    requires { ⌜ Pivots sys (real32 .count (now a)) × (k < sys .b .rows) ⌝ }
     ensures { λ r. ⌜ r ≡ solve.zeroAfter real32 sys (now (a .entry)) k ⌝ }
 {
     let diag = sys.diag;
     let q = in_order(sys.last, rows(sys.b), k);
-    zero_pivot(diag, a, sys.a, q, pivot)
-}
-
-// The unknowns of a vector, up to the first zero pivot, where the last is solved first.
-fn solve_backward(sys: System, a: &[f32], b: &mut [f32]) -> Answer
-    requires { ⌜ Ready sys (real32 .count (now a)) (real32 .count (now b)) × (sys .b .cols ≡ 1) × Distinct (sys .b) ⌝ }
-    ensures { λ r. ⌜ solve.Solved real32 sys (λ x. x) (now (a .entry)) (now (b .entry)) r (now (b .exit)) ⌝ }
-{
-    let n = rows(sys.b);
-    if n == 0 {
-        return Answer::Done;
-    }
-    let by = steps_of(sys);
-    let mut at = places_of(sys);
-    let mut k = 0;
-    while k < n {
-        if meets_zero(sys, a, k, at.pivot) {
-            return Answer::Singular;
-        }
-        solve_next(sys, a, b, k, at);
-        at = onward(at, by);
-        k += 1;
-    }
-    Answer::Done
-}
-
-// The same where the first is solved first: in a loop of its own the compiler knows before it which places move.
-fn solve_forward(sys: System, a: &[f32], b: &mut [f32]) -> Answer
-    requires { ⌜ Ready sys (real32 .count (now a)) (real32 .count (now b)) × (sys .b .cols ≡ 1) × Distinct (sys .b) ⌝ }
-    ensures { λ r. ⌜ solve.Solved real32 sys (λ x. x) (now (a .entry)) (now (b .entry)) r (now (b .exit)) ⌝ }
-{
-    let m = rows(sys.b);
-    if m == 0 {
-        return Answer::Done;
-    }
-    let by = steps_of(sys);
-    let mut at = places_of(sys);
-    let mut k = 0;
-    while k < m {
-        if meets_zero(sys, a, k, at.pivot) {
-            return Answer::Singular;
-        }
-        solve_next(sys, a, b, k, at);
-        at = onward(at, by);
-        k += 1;
-    }
-    Answer::Done
+    zero_pivot(diag, a, sys.a, q)
 }
 
 // The unknowns of a vector, up to the first zero pivot.
 fn solve_vector(sys: System, a: &[f32], b: &mut [f32]) -> Answer
-    requires { ⌜ Ready sys (real32 .count (now a)) (real32 .count (now b)) × (sys .b .cols ≡ 1) × Distinct (sys .b) ⌝ }
+    requires { ⌜ Ready sys (real32 .count (now a)) (real32 .count (now b)) × (sys .b .cols ≡ 1) ⌝ }
     ensures { λ r. ⌜ solve.Solved real32 sys (λ x. x) (now (a .entry)) (now (b .entry)) r (now (b .exit)) ⌝ }
 {
-    if sys.last {
-        solve_backward(sys, a, b)
-    } else {
-        solve_forward(sys, a, b)
+    let n = rows(sys.b);
+    let mut k = 0;
+    while k < n {
+        if meets_zero(sys, a, k) {
+            return Answer::Singular;
+        }
+        right_one(sys, a, b, k, 0);
+        k += 1;
     }
+    Answer::Done
 }
 
 // How many unknowns come before the first zero pivot.
@@ -375,70 +195,15 @@ fn first_zero(sys: System, a: &[f32]) -> usize
     requires { ⌜ Pivots sys (real32 .count (now a)) ⌝ }
     ensures { λ r. ⌜ r ≡ solve.firstZero real32 sys (now (a .entry)) ⌝ }
 {
-    let m = rows(sys.b);
+    let all = rows(sys.b);
     let mut k = 0;
-    while k < m {
-        let q = in_order(sys.last, m, k);
-        if meets_zero(sys, a, k, place(sys.a, q, q)) {
+    while k < all {
+        if meets_zero(sys, a, k) {
             return k;
         }
         k += 1;
     }
     k
-}
-
-// Whether some pivot is zero.
-fn any_zero(sys: System, a: &[f32]) -> bool
-    requires { ⌜ Pivots sys (real32 .count (now a)) ⌝ }
-    ensures { λ r. ⌜ r ≡ solve.anyZero real32 sys (now (a .entry)) ⌝ }
-{
-    let diag = sys.diag;
-    let m = rows(sys.b);
-    let mut q = 0;
-    while q < m {
-        if zero_pivot(diag, a, sys.a, q, place(sys.a, q, q)) {
-            return true;
-        }
-        q += 1;
-    }
-    false
-}
-
-// How many unknowns come before the first zero pivot, all where there is none.
-fn reached(sys: System, a: &[f32]) -> usize
-    requires { ⌜ Pivots sys (real32 .count (now a)) ⌝ }
-    ensures { λ r. ⌜ r ≡ solve.firstZero real32 sys (now (a .entry)) ⌝ }
-{
-    if any_zero(sys, a) {
-        first_zero(sys, a)
-    } else {
-        rows(sys.b)
-    }
-}
-
-// The unknown of line l that is solved first, with A on the left: it has no sum.
-fn left_first(sys: System, alpha: Real32, a: &[f32], b: &mut [f32], l: usize)
-    requires { ⌜ ReadyAt sys (real32 .count (now a)) (real32 .count (now b)) 0 l ⌝ }
-    ensures { λ _. ⌜ now (b .exit) ≡ solve.solveUnknown real32 sys (real32 .mul (alpha .0)) (now (a .entry)) 0 l (now (b .entry)) ⌝ }
-{
-    let diag = sys.diag;
-    let m = rows(sys.b);
-    let q = in_order(sys.last, m, 0);
-    let x = alpha.mul(elem32(b, sys.b, q, l)).0;
-    let y = by_pivot(diag, sys.conjugated, a, sys.a, q, place(sys.a, q, q), x);
-    put32(b, place(sys.b, q, l), Real32(y));
-}
-
-// That unknown in the first n lines.
-fn left_begin(sys: System, alpha: Real32, a: &[f32], b: &mut [f32], n: usize)
-    requires { ⌜ Ready sys (real32 .count (now a)) (real32 .count (now b)) × ((n ≤ sys .b .cols) × (0 < sys .b .rows)) ⌝ }
-    ensures { λ _. ⌜ now (b .exit) ≡ solve.solveAcross real32 sys (real32 .mul (alpha .0)) (now (a .entry)) n 0 (now (b .entry)) ⌝ }
-{
-    let mut l = 0;
-    while l < n {
-        left_first(sys, alpha, a, b, l);
-        l += 1;
-    }
 }
 
 // The unknown that comes after k others, in the first n lines, with A on the left.
@@ -458,11 +223,7 @@ fn left_unknowns(sys: System, alpha: Real32, a: &[f32], b: &mut [f32], n: usize,
     requires { ⌜ Ready sys (real32 .count (now a)) (real32 .count (now b)) × ((n ≤ sys .b .cols) × (m ≤ sys .b .rows)) ⌝ }
     ensures { λ _. ⌜ now (b .exit) ≡ solve.solveUnknowns real32 sys (real32 .mul (alpha .0)) (now (a .entry)) n m (now (b .entry)) ⌝ }
 {
-    if m == 0 {
-        return;
-    }
-    left_begin(sys, alpha, a, b, n);
-    let mut k = 1;
+    let mut k = 0;
     while k < m {
         left_across(sys, alpha, a, b, n, k);
         k += 1;
@@ -475,36 +236,11 @@ fn left_lines(sys: System, alpha: Real32, a: &[f32], b: &mut [f32]) -> Answer
     ensures { λ r. ⌜ solve.Solved real32 sys (real32 .mul (alpha .0)) (now (a .entry)) (now (b .entry)) r (now (b .exit)) ⌝ }
 {
     let side = sys.side;
-    let m = reached(sys, a);
+    let m = first_zero(sys, a);
     let stopped = stops(sys, m);
     let n = lines_solved(side, stopped, cols(sys.b));
     left_unknowns(sys, alpha, a, b, n, m);
     solved(stopped)
-}
-
-// The unknown of line l that is solved first, with A on the right: it has no sum.
-fn right_first(sys: System, a: &[f32], b: &mut [f32], l: usize)
-    requires { ⌜ ReadyAt sys (real32 .count (now a)) (real32 .count (now b)) 0 l ⌝ }
-    ensures { λ _. ⌜ now (b .exit) ≡ solve.solveUnknown real32 sys (λ x. x) (now (a .entry)) 0 l (now (b .entry)) ⌝ }
-{
-    let diag = sys.diag;
-    let m = rows(sys.b);
-    let q = in_order(sys.last, m, 0);
-    let x = elem32(b, sys.b, q, l).0;
-    let y = by_pivot(diag, sys.conjugated, a, sys.a, q, place(sys.a, q, q), x);
-    put32(b, place(sys.b, q, l), Real32(y));
-}
-
-// That unknown in the first n lines.
-fn right_begin(sys: System, a: &[f32], b: &mut [f32], n: usize)
-    requires { ⌜ Ready sys (real32 .count (now a)) (real32 .count (now b)) × ((n ≤ sys .b .cols) × (0 < sys .b .rows)) ⌝ }
-    ensures { λ _. ⌜ now (b .exit) ≡ solve.solveAcross real32 sys (λ x. x) (now (a .entry)) n 0 (now (b .entry)) ⌝ }
-{
-    let mut l = 0;
-    while l < n {
-        right_first(sys, a, b, l);
-        l += 1;
-    }
 }
 
 // The unknown that comes after k others, in the first n lines, with A on the right.
@@ -524,11 +260,7 @@ fn right_unknowns(sys: System, a: &[f32], b: &mut [f32], n: usize, m: usize)
     requires { ⌜ Ready sys (real32 .count (now a)) (real32 .count (now b)) × ((n ≤ sys .b .cols) × (m ≤ sys .b .rows)) ⌝ }
     ensures { λ _. ⌜ now (b .exit) ≡ solve.solveUnknowns real32 sys (λ x. x) (now (a .entry)) n m (now (b .entry)) ⌝ }
 {
-    if m == 0 {
-        return;
-    }
-    right_begin(sys, a, b, n);
-    let mut k = 1;
+    let mut k = 0;
     while k < m {
         right_across(sys, a, b, n, k);
         k += 1;
@@ -541,7 +273,7 @@ fn right_lines(sys: System, a: &[f32], b: &mut [f32]) -> Answer
     ensures { λ r. ⌜ solve.Solved real32 sys (λ x. x) (now (a .entry)) (now (b .entry)) r (now (b .exit)) ⌝ }
 {
     let side = sys.side;
-    let m = reached(sys, a);
+    let m = first_zero(sys, a);
     let stopped = stops(sys, m);
     let n = lines_solved(side, stopped, cols(sys.b));
     right_unknowns(sys, a, b, n, m);
@@ -707,32 +439,13 @@ fn multiply(sys: System, alpha: Real32, a: &[f32], b: &mut [f32])
     }
 }
 
-// Element q of the product with a vector.
-fn vector_sum(sys: System, a: &[f32], b: &[f32], q: usize) -> f32
-    requires { ⌜ ReadyAt sys (real32 .count (now a)) (real32 .count (now b)) q 0 ⌝ }
-    ensures { λ r. ⌜ r ≡ multiply.lineSum real32 sys (now (a .entry)) (now (b .entry)) q 0 ⌝ }
-{
-    let diag = sys.diag;
-    let c = own_weight(diag, sys.conjugated, a, sys.a, q);
-    let own = c.mul(elem32(b, sys.b, q, 0));
-    if sys.last {
-        let n = rows(sys.b) - 1 - q;
-        let x = Real32::ZERO.add(own).0;
-        add_run(sys.conjugated, a, sys.a, b, sys.b, q, 0, q + 1, n, x)
-    } else {
-        let x = Real32::ZERO.0;
-        let sum = add_run(sys.conjugated, a, sys.a, b, sys.b, q, 0, 0, q, x);
-        Real32(sum).add(own).0
-    }
-}
-
 // The element of a vector that comes after k others, multiplied.
 fn multiply_next(sys: System, a: &[f32], b: &mut [f32], k: usize)
     requires { ⌜ ReadyAt sys (real32 .count (now a)) (real32 .count (now b)) k 0 ⌝ }
     ensures { λ _. ⌜ now (b .exit) ≡ multiply.multiplyOne real32 sys (now (a .entry)) (λ x. x) k 0 (now (b .entry)) ⌝ }
 {
     let q = in_order(!sys.last, rows(sys.b), k);
-    let x = vector_sum(sys, a, b, q);
+    let x = line_sum(sys, a, b, q, 0);
     put32(b, place(sys.b, q, 0), Real32(x));
 }
 

@@ -6,7 +6,7 @@ use Rattle.number.specs.Kind.{real32}
 use Rattle.slab.specs.Elem.{elem}
 use Rattle.slab.specs.Run.{elemConj, plusTerms}
 use Rattle.slab.proofs.RunLaws.{plus-start, plus-end, plus-next}
-use Rattle.order.proofs.Systems.{weighed, not-past}
+use Rattle.order.proofs.Systems.{weighed}
 use Rattle.triangle_real32.proofs.add_run.Statement.{statement}
 use Rattle.triangle_real32.proofs.add_run.Tie as tie
 
@@ -22,14 +22,11 @@ loop-holds c = (omega arith, plus-start real32 _ _ _)
 add-p : tie.Need-add-p Inv-loop μ-loop
 add-p c = let h = c .before .before .before .before .pre .left (c .before .loop .i) (omega arith) in omega (arith, h .col, h .fits .cols-le)
 
-returns : tie.Need-returns Inv-loop μ-loop
-returns c = absurd (not-past _ _ (c .before .before .before .before .before .before .pre .right (c .before .before .before .loop .i) (omega arith) .row) (c .if1 .taken))
-
 at-requires : tie.Need-at-requires Inv-loop μ-loop
-at-requires c κs = c .before .before .before .before .before .before .pre .left _ (omega arith)
+at-requires c κs = c .before .before .before .before .pre .left _ (omega arith)
 
 elem32-requires : tie.Need-elem32-requires Inv-loop μ-loop
-elem32-requires c κs = c .before .before .before .before .before .before .before .pre .right _ (omega arith)
+elem32-requires c κs = c .before .before .before .before .before .pre .right _ (omega arith)
 
 mul-requires : tie.Need-mul-requires Inv-loop μ-loop
 mul-requires c κs = tt
@@ -45,11 +42,11 @@ loop-less c = omega arith
 
 loop-again : tie.Need-loop-again Inv-loop μ-loop
 loop-again c =
-    let p = c .before .before .before .before .before .before .before .before .before .before .args in
-    (omega arith, plus-next real32 (λ k. real32 .mul (elemConj real32 (p .conjugated) (now (p .a)) (p .va) (p .q) k) (elem real32 (now (p .b)) (p .vb) k (p .l))) _ _ _ _ _ _ (c .before .before .before .before .before .before .before .loop .inv .1) (weighed real32 _ _ _ _ _ (c .before .before .before .at .ensures) (c .before .before .elem32 .ensures) (c .before .mul .ensures)) (c .add .ensures))
+    let p = c .before .before .before .before .before .before .before .before .args in
+    (omega arith, plus-next real32 (λ k. real32 .mul (elemConj real32 (p .conjugated) (now (p .a)) (p .va) (p .q) k) (elem real32 (now (p .b)) (p .vb) k (p .l))) _ _ _ _ _ _ (c .before .before .before .before .before .loop .inv .1) (weighed real32 _ _ _ _ _ (c .before .before .before .at .ensures) (c .before .before .elem32 .ensures) (c .before .mul .ensures)) (c .add .ensures))
 
-returns-2 : tie.Need-returns-2 Inv-loop μ-loop
-returns-2 c = plus-end real32 _ _ _ _ _ _ (c .before .loop .inv .0) (omega arith) (c .before .loop .inv .1)
+returns : tie.Need-returns Inv-loop μ-loop
+returns c = plus-end real32 _ _ _ _ _ _ (c .before .loop .inv .0) (omega arith) (c .before .loop .inv .1)
 
 pub add-run-spec : {M : Type 1} → statement M
 add-run-spec =
@@ -59,7 +56,6 @@ add-run-spec =
     μ-loop
     loop-holds
     add-p
-    returns
     at-requires
     elem32-requires
     mul-requires
@@ -67,4 +63,4 @@ add-run-spec =
     add-i
     loop-less
     loop-again
-    returns-2)
+    returns)

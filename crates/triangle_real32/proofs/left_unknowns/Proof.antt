@@ -1,38 +1,26 @@
 use Prim.Native.Nat.{_≤_, _-_}
-use mathlib.Core.List.{List}
 use mathlib.Core.Path.{_≡_, refl, _∙_}
 use native.Mathlib.Omega.{arith}
 use lib.ListN.{length}
 use Rattle.number.specs.Kind.{real32}
 use Rattle.order.specs.Walk.{walk}
 use Rattle.order.specs.Solve.{solveAcross}
-use Rattle.order.proofs.WalkLaws.{walk-start, walk-one, walk-next, walk-end}
+use Rattle.order.proofs.WalkLaws.{walk-start, walk-next, walk-end}
 use Rattle.order.proofs.Systems.{ready-kept}
 use Rattle.triangle_real32.proofs.left_unknowns.Statement.{statement}
 use Rattle.triangle_real32.proofs.left_unknowns.Tie as tie
 
--- b₀ is what the first unknown leaves, of some s
 abbrev Inv-loop : tie.InvT-loop
-Inv-loop sys alpha a b₀ n m k₀ b k = (k ≤ m) × (length b ≡ length b₀) × ((s : List (real32 .Cell)) → b₀ ≡ solveAcross real32 sys (real32 .mul (alpha .0)) a n 0 s → b ≡ walk k (λ i. solveAcross real32 sys (real32 .mul (alpha .0)) a n i) s)
+Inv-loop sys alpha a b₀ n m k₀ b k = (k ≤ m) × (length b ≡ length b₀) × (b ≡ walk k (λ i. solveAcross real32 sys (real32 .mul (alpha .0)) a n i) b₀)
 
 abbrev μ-loop : tie.MeasureT-loop
 μ-loop sys alpha a b₀ n m k₀ b k = m - k
 
-returns : tie.Need-returns Inv-loop μ-loop
-returns c = walk-end _ _ 0 _ _ (omega arith) (omega (arith, c .if1 .taken)) (walk-start _ _)
-
-left-begin-requires : tie.Need-left-begin-requires Inv-loop μ-loop
-left-begin-requires c κs =
-    let p = c .before .before .before .before .pre in
-    (p .0, (p .1 .0, omega (arith, p .1 .1, c .before .if1 .left)))
-
 loop-holds : tie.Need-loop-holds Inv-loop μ-loop
-loop-holds c = (omega arith, refl, λ s e. walk-one _ _ _ e)
+loop-holds c = (omega arith, refl, walk-start _ _)
 
 left-across-requires : tie.Need-left-across-requires Inv-loop μ-loop
-left-across-requires c κs =
-    let p = c .before .before .before .before .before .before .before .before .before .before .pre in
-    (ready-kept _ _ _ _ (p .0) (c .before .before .loop .inv .1 ∙ c .before .before .before .before .before .left-begin .kept .1 .1 .1 .0), (p .1 .0, omega (arith, p .1 .1)))
+left-across-requires c κs = let p = c .before .before .before .before .before .pre in (ready-kept _ _ _ _ (p .0) (c .before .before .loop .inv .1), (p .1 .0, omega (arith, p .1 .1)))
 
 add-k : tie.Need-add-k Inv-loop μ-loop
 add-k c = omega arith
@@ -41,15 +29,13 @@ loop-less : tie.Need-loop-less Inv-loop μ-loop
 loop-less c = omega arith
 
 loop-again : tie.Need-loop-again Inv-loop μ-loop
-loop-again c =
-    let i = c .before .before .before .before .before .loop .inv in
-    (omega arith, c .before .before .left-across .kept .1 .1 .1 .0 ∙ i .1, λ s e. walk-next _ _ _ _ _ (i .2 s e) (c .before .before .left-across .ensures))
+loop-again c = (omega arith, c .before .before .left-across .kept .1 .1 .1 .0 ∙ c .before .before .before .before .before .loop .inv .1, walk-next _ _ _ _ _ (c .before .before .before .before .before .loop .inv .2) (c .before .before .left-across .ensures))
 
 same-length : tie.Need-same-length Inv-loop μ-loop
-same-length c = c .before .loop .inv .1 ∙ c .before .before .before .before .left-begin .kept .1 .1 .1 .0
+same-length c = c .before .loop .inv .1
 
-returns-2 : tie.Need-returns-2 Inv-loop μ-loop
-returns-2 c = walk-end _ _ _ _ _ (c .before .loop .inv .0) (omega arith) (c .before .loop .inv .2 _ (c .before .before .before .before .left-begin .ensures))
+returns : tie.Need-returns Inv-loop μ-loop
+returns c = walk-end _ _ _ _ _ (c .before .loop .inv .0) (omega arith) (c .before .loop .inv .2)
 
 pub left-unknowns-spec : {M : Type 1} → statement M
 left-unknowns-spec =
@@ -57,12 +43,10 @@ left-unknowns-spec =
     (tie.spec
     Inv-loop
     μ-loop
-    returns
-    left-begin-requires
     loop-holds
     left-across-requires
     add-k
     loop-less
     loop-again
     same-length
-    returns-2)
+    returns)

@@ -4,8 +4,8 @@ use borrow.Author.Needs.{needs}
 use Rattle.triangle_real64.proofs.left_lines.Statement.{statement}
 use Rattle.triangle_real64.proofs.left_lines.Tie as tie
 
-reached-requires : tie.Need-reached-requires
-reached-requires c κs = search needs
+first-zero-requires : tie.Need-first-zero-requires
+first-zero-requires c κs = search needs
 
 stops-requires : tie.Need-stops-requires
 stops-requires c κs = search needs
@@ -17,7 +17,7 @@ lines-solved-requires : tie.Need-lines-solved-requires
 lines-solved-requires c κs = search needs
 
 left-unknowns-requires : tie.Need-left-unknowns-requires
-left-unknowns-requires c κs = (c .before .before .before .before .before .before .before .pre, (lines-in (c .before .before .before .before .before .before .before .args .sys .side) _ _ _ _ _ (c .before .before .before .stops .ensures) (c .before .before .cols .ensures) (c .before .lines-solved .ensures), unknowns-in real64 _ _ _ (c .before .before .before .before .reached .ensures)))
+left-unknowns-requires c κs = (c .before .before .before .before .before .before .before .pre, (lines-in (c .before .before .before .before .before .before .before .args .sys .side) _ _ _ _ _ (c .before .before .before .stops .ensures) (c .before .before .cols .ensures) (c .before .lines-solved .ensures), unknowns-in real64 _ _ _ (c .before .before .before .before .first-zero .ensures)))
 
 solved-requires : tie.Need-solved-requires
 solved-requires c κs = search needs
@@ -26,13 +26,13 @@ same-length : tie.Need-same-length
 same-length c = search needs
 
 returns : tie.Need-returns
-returns c = lines-solved real64 _ _ _ _ _ _ _ _ _ _ (c .before .before .before .before .before .before .before .before .reached .ensures) (c .before .before .before .before .before .before .before .stops .ensures) (c .before .before .before .before .before .before .cols .ensures) (c .before .before .before .before .before .lines-solved .ensures) (c .solved .ensures) (c .before .before .before .left-unknowns .ensures)
+returns c = lines-solved real64 _ _ _ _ _ _ _ _ _ _ (c .before .before .before .before .before .before .before .before .first-zero .ensures) (c .before .before .before .before .before .before .before .stops .ensures) (c .before .before .before .before .before .before .cols .ensures) (c .before .before .before .before .before .lines-solved .ensures) (c .solved .ensures) (c .before .before .before .left-unknowns .ensures)
 
 pub left-lines-spec : {M : Type 1} → statement M
 left-lines-spec =
     tie.close
     (tie.spec
-    reached-requires
+    first-zero-requires
     stops-requires
     cols-requires
     lines-solved-requires
