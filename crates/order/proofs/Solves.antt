@@ -390,7 +390,7 @@ module _ (K : Kind) (C : Commutes K) (uplo : UpLo) (t : Trans) (diag : Diag) (be
           ≡ cond b (walk (reach K leftly sa) (λ i. solveUnknown K leftly begin sa i 0) s₀) (walk (vb .cols) (λ l. walk (vb .rows) (λ k. solveUnknown K leftly begin sa k l)) s₀)
       by-lines true e = refl
       by-lines false e =
-          line-after-line K L W leftly begin sa apart (reach K leftly sa) (reach-le K leftly sa) s₀
+          line-after-line K L leftly begin sa apart W (reach K leftly sa) (reach-le K leftly sa) s₀
           ∙ walk-cong (λ l. walk (reach K leftly sa) (λ k. solveUnknown K leftly begin sa k l)) (λ l. walk (vb .rows) (λ k. solveUnknown K leftly begin sa k l)) (vb .cols)
           (λ l h q. ap (λ (n : ℕ). walk n (λ k. solveUnknown K leftly begin sa k l) q) (all-solved K leftly sa e l h))
           s₀

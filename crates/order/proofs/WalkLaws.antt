@@ -30,6 +30,14 @@ module _ {A : Type 0} (f : ℕ → A → A) (s₀ : A) where
       let e : suc (n + k) ≡ n + suc k = omega arith in
       ap (f (n + k)) (walk-add n k) ∙ ap (λ (m : ℕ). walk m f s₀) e
 
+  -- a block of steps: the first of them, after l steps in all, is step `first` of those from `from` on
+  pub walk-block : (l n from first more : ℕ) (s t : A) → from + first ≡ l → l + more ≡ n → s ≡ walk l f s₀ → t ≡ walk more (λ i. f (from + (first + i))) s → t ≡ walk n f s₀
+  walk-block l n from first more s t d c h e =
+      e ∙ (λ j. walk more (λ i. f (same i j)) (h j)) ∙ walk-add l more ∙ ap (λ (k : ℕ). walk k f s₀) c
+    where
+      same : (i : ℕ) → from + (first + i) ≡ l + i
+      same i = omega arith
+
 -- steps that agree below n
 pub walk-cong : {A : Type 0} (f g : ℕ → A → A) (n : ℕ) → ((i : ℕ) → i < n → (s : A) → f i s ≡ g i s) → (s : A) → walk n f s ≡ walk n g s
 unfolding walk

@@ -15,7 +15,6 @@ ghost use Rattle.blas.specs.Trsm;
 ghost use Rattle.blas.specs.Trsv;
 ghost use Rattle.blas.specs.Trmm;
 ghost use Rattle.blas.specs.Trmv;
-ghost use Rattle.order.specs.Walk.{walk};
 ghost use Rattle.order.specs.Triangles as triangles;
 ghost use Rattle.order.specs.Triangles.{timesIf};
 ghost use Rattle.order.specs.Solve as solve;
@@ -76,11 +75,11 @@ fn reduce(
     ensures { λ r. ⌜ r ≡ minusTerms complex x (λ p. complex .mul (elemConj complex conjugated (now (a .entry)) va q p) (elem complex (now (b .entry)) vb p l)) from n ⌝ }
 {
     let mut rest = x;
-    let mut i = 0;
-    while i < n {
-        let p = from + i;
+    let end = from + n;
+    let mut p = from;
+    while p < end {
         rest = rest.sub(at(conjugated, a, va, q, p).mul(elem_complex(b, vb, p, l)));
-        i += 1;
+        p += 1;
     }
     rest
 }
@@ -102,11 +101,11 @@ fn add_run(
     ensures { λ r. ⌜ r ≡ plusTerms complex x (λ p. complex .mul (elemConj complex conjugated (now (a .entry)) va q p) (elem complex (now (b .entry)) vb p l)) from n ⌝ }
 {
     let mut sum = x;
-    let mut i = 0;
-    while i < n {
-        let p = from + i;
+    let end = from + n;
+    let mut p = from;
+    while p < end {
         sum = sum.add(at(conjugated, a, va, q, p).mul(elem_complex(b, vb, p, l)));
-        i += 1;
+        p += 1;
     }
     sum
 }
@@ -348,80 +347,46 @@ fn line_sum(sys: System, a: &[f64], b: &[f64], q: usize, l: usize) -> Complex
 }
 
 // The element of line l that comes after k others, multiplied.
-fn multiply_one(sys: System, alpha: Complex, a: &[f64], b: &mut [f64], k: usize, l: usize)
+fn multiply_one(
+    sys: System,
+    times: bool,
+    alpha: Complex,
+    a: &[f64],
+    b: &mut [f64],
+    k: usize,
+    l: usize,
+)
     requires { ⌜ ReadyAt sys (complex .count (now a)) (complex .count (now b)) k l ⌝ }
-    ensures { λ _. ⌜ now (b .exit) ≡ multiply.multiplyOne complex sys (now (a .entry)) (complex .mul alpha) k l (now (b .entry)) ⌝ }
+    ensures { λ _. ⌜ now (b .exit) ≡ multiply.multiplyOne complex sys (now (a .entry)) (timesIf complex times alpha) k l (now (b .entry)) ⌝ }
 {
     let q = in_order(!sys.last, rows(sys.b), k);
-    let x = alpha.mul(line_sum(sys, a, b, q, l));
+    let x = times_if(times, alpha, line_sum(sys, a, b, q, l));
     put_complex(b, place(sys.b, q, l), x);
 }
 
 // Line l of B, in the order that reads no written element.
-fn multiply_line(sys: System, alpha: Complex, a: &[f64], b: &mut [f64], l: usize)
+fn multiply_line(sys: System, times: bool, alpha: Complex, a: &[f64], b: &mut [f64], l: usize)
     requires { ⌜ Ready sys (complex .count (now a)) (complex .count (now b)) × (l < sys .b .cols) ⌝ }
-    ensures { λ _. ⌜ now (b .exit) ≡ multiply.multiplyLine complex sys (now (a .entry)) (complex .mul alpha) l (sys .b .rows) (now (b .entry)) ⌝ }
+    ensures { λ _. ⌜ now (b .exit) ≡ multiply.multiplyLine complex sys (now (a .entry)) (timesIf complex times alpha) l (sys .b .rows) (now (b .entry)) ⌝ }
 {
     let m = rows(sys.b);
     let mut k = 0;
     while k < m {
-        multiply_one(sys, alpha, a, b, k, l);
+        multiply_one(sys, times, alpha, a, b, k, l);
         k += 1;
     }
 }
 
 // All of B, line after line.
-fn multiply(sys: System, alpha: Complex, a: &[f64], b: &mut [f64])
+fn multiply(sys: System, times: bool, alpha: Complex, a: &[f64], b: &mut [f64])
     requires { ⌜ Ready sys (complex .count (now a)) (complex .count (now b)) ⌝ }
-    ensures { λ _. ⌜ now (b .exit) ≡ multiply.multiplyAll complex sys (now (a .entry)) (complex .mul alpha) (now (b .entry)) ⌝ }
+    ensures { λ _. ⌜ now (b .exit) ≡ multiply.multiplyAll complex sys (now (a .entry)) (timesIf complex times alpha) (now (b .entry)) ⌝ }
 {
     let n = cols(sys.b);
     let mut l = 0;
     while l < n {
-        multiply_line(sys, alpha, a, b, l);
+        multiply_line(sys, times, alpha, a, b, l);
         l += 1;
-    }
-}
-
-// Element q of the product with a vector.
-fn vector_sum(sys: System, a: &[f64], b: &[f64], q: usize) -> Complex
-    requires { ⌜ ReadyAt sys (complex .count (now a)) (complex .count (now b)) q 0 ⌝ }
-    ensures { λ r. ⌜ r ≡ multiply.lineSum complex sys (now (a .entry)) (now (b .entry)) q 0 ⌝ }
-{
-    let diag = sys.diag;
-    let c = own_weight(diag, sys.conjugated, a, sys.a, q);
-    let own = c.mul(elem_complex(b, sys.b, q, 0));
-    if sys.last {
-        let n = rows(sys.b) - 1 - q;
-        let x = Complex::ZERO.add(own);
-        add_run(sys.conjugated, a, sys.a, b, sys.b, q, 0, q + 1, n, x)
-    } else {
-        let x = Complex::ZERO;
-        let sum = add_run(sys.conjugated, a, sys.a, b, sys.b, q, 0, 0, q, x);
-        sum.add(own)
-    }
-}
-
-// The element of a vector that comes after k others, multiplied.
-fn multiply_next(sys: System, a: &[f64], b: &mut [f64], k: usize)
-    requires { ⌜ ReadyAt sys (complex .count (now a)) (complex .count (now b)) k 0 ⌝ }
-    ensures { λ _. ⌜ now (b .exit) ≡ multiply.multiplyOne complex sys (now (a .entry)) (λ x. x) k 0 (now (b .entry)) ⌝ }
-{
-    let q = in_order(!sys.last, rows(sys.b), k);
-    let x = vector_sum(sys, a, b, q);
-    put_complex(b, place(sys.b, q, 0), x);
-}
-
-// All of a vector, in that order.
-fn multiply_vector(sys: System, a: &[f64], b: &mut [f64])
-    requires { ⌜ Ready sys (complex .count (now a)) (complex .count (now b)) × (sys .b .cols ≡ 1) ⌝ }
-    ensures { λ _. ⌜ now (b .exit) ≡ walk (sys .b .rows) (λ k. multiply.multiplyOne complex sys (now (a .entry)) (λ x. x) k 0) (now (b .entry)) ⌝ }
-{
-    let m = rows(sys.b);
-    let mut k = 0;
-    while k < m {
-        multiply_next(sys, a, b, k);
-        k += 1;
     }
 }
 
@@ -442,7 +407,7 @@ pub fn trmv(
     if passed(answer) {
         let v = column(vx, va.rows);
         let sys = system_of(Side::Left, uplo, trans, diag, va, v);
-        multiply_vector(sys, a, x);
+        multiply(sys, false, Complex::ONE, a, x);
     }
     answer
 }
@@ -465,7 +430,7 @@ pub fn trmm(
     let answer = check_trmm(quick, side, va, a.len() / 2, vb, b.len() / 2);
     if passed(answer) {
         let sys = system_of(side, uplo, trans, diag, va, vb);
-        multiply(sys, alpha, a, b);
+        multiply(sys, true, alpha, a, b);
     }
     answer
 }

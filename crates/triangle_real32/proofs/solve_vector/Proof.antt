@@ -35,8 +35,8 @@ returns c =
     let e = c .before .before .before .before .rows .ensures in
     vector-stopped real32 _ _ _ _ _ _ _ (c .before .before .before .before .before .before .before .pre .1) e (first-found _ _ _ _ _ e (omega arith) (i .2) (c .before .meets-zero .ensures) (c .if1 .taken)) (i .3) (omega arith)
 
-right-one-requires : tie.Need-right-one-requires Inv-loop μ-loop
-right-one-requires c κs =
+solve-one-requires : tie.Need-solve-one-requires Inv-loop μ-loop
+solve-one-requires c κs =
     let p = c .before .before .before .before .before .before .before .before .pre in
     ready-for _ _ _ _ _ _ _ _ (p .0) (c .before .before .before .before .loop .inv .1) (c .before .before .before .before .before .rows .ensures) refl (omega arith) (omega (arith, p .1))
 
@@ -50,9 +50,9 @@ loop-again : tie.Need-loop-again Inv-loop μ-loop
 loop-again c =
     let i = c .before .before .before .before .before .before .before .loop .inv in (
       omega arith,
-      c .before .before .right-one .kept .1 .1 .0 ∙ i .1,
+      c .before .before .solve-one .kept .1 .1 .1 .1 .0 ∙ i .1,
       clear-next _ _ _ (i .2) (c .before .before .before .before .before .meets-zero .ensures) (c .before .before .before .before .if1 .left),
-      walk-next _ _ _ _ _ (i .3) (c .before .before .right-one .ensures),
+      walk-next _ _ _ _ _ (i .3) (c .before .before .solve-one .ensures),
     )
 
 same-length-2 : tie.Need-same-length-2 Inv-loop μ-loop
@@ -75,7 +75,7 @@ solve-vector-spec =
     meets-zero-requires
     same-length
     returns
-    right-one-requires
+    solve-one-requires
     add-k
     loop-less
     loop-again
