@@ -21,7 +21,7 @@ module _ {A : Type 0} (f : ℕ → A → A) (s₀ : A) where
       subst (λ (k : ℕ). s ≡ walk k f s₀) q e
 
   -- n steps and k more
-  pub walk-add : (n k : ℕ) → walk k (λ i. f (n + i)) (walk n f s₀) ≡ walk (n + k) f s₀
+  walk-add : (n k : ℕ) → walk k (λ i. f (n + i)) (walk n f s₀) ≡ walk (n + k) f s₀
   unfolding walk
   walk-add n zero =
       let e : n ≡ n + 0 = omega arith in
