@@ -2,11 +2,11 @@
 pub mod WalkLaws
 pub mod InOrder
 pub mod Systems
-pub mod PlaceLaws
 pub mod Judged
+pub mod Runs
+pub mod LineSums
 pub mod Lines
 pub mod Solves
 pub mod SolveKernels
-pub mod LineSums
 pub mod Multiplies
 pub mod ProductKernels

@@ -15,6 +15,7 @@ use Rattle.view.specs.declared.Diag.the-variants.{NonUnit, Unit}
 use Rattle.view.specs.declared.Side.{Side}
 use Rattle.view.specs.declared.Side.the-variants.{Left, Right}
 use Rattle.view.specs.Checks.{orderOf}
+use Rattle.slab.specs.Eight.{Eight}
 use Rattle.slab.specs.Elem.{elem}
 use Rattle.slab.specs.Run.{plusTerms}
 use Rattle.blas.specs.Matrix.{Matrix, op, sumOver}
@@ -75,10 +76,10 @@ module _ (K : Kind) (f : ℕ → K .Elem) (q : ℕ) where
       ∙ over-before k
 
 -- runs whose terms agree
-more-cong : (K : Kind) (f g : ℕ → K .Elem) (x : K .Elem) (from n : ℕ) → ((i : ℕ) → i < n → f (from + i) ≡ g (from + i)) → plusTerms K x f from n ≡ plusTerms K x g from n
+pub more-cong : (K : Kind) (f g : ℕ → K .Elem) (x z : K .Elem) (from n : ℕ) → x ≡ z → ((i : ℕ) → i < n → f (from + i) ≡ g (from + i)) → plusTerms K x f from n ≡ plusTerms K z g from n
 unfolding plusTerms
-more-cong K f g x from zero h = refl
-more-cong K f g x from (suc n) h = λ i. K .add (more-cong K f g x from n (λ p l. h p (omega arith)) i) (h n (omega arith) i)
+more-cong K f g x z from zero d h = d
+more-cong K f g x z from (suc n) d h = λ i. K .add (more-cong K f g x z from n d (λ p l. h p (omega arith)) i) (h n (omega arith) i)
 
 -- the terms but the own one are g's
 module _ (K : Kind) (f g : ℕ → K .Elem) (own : K .Elem) (m q : ℕ) (below : q < m) (at-q : own ≡ f q)
@@ -88,12 +89,12 @@ module _ (K : Kind) (f g : ℕ → K .Elem) (own : K .Elem) (m q : ℕ) (below :
   sum-in-parts true =
       let e : suc q + (m - suc q) ≡ m = omega arith in
       ap (λ (x : K .Elem). plusTerms K (K .add (K .zero) x) g (suc q) (m - suc q)) at-q
-      ∙ more-cong K g f (K .add (K .zero) (f q)) (suc q) (m - suc q) (λ i l. else (suc q + i) (λ d. omega arith))
+      ∙ more-cong K g f (K .add (K .zero) (f q)) (K .add (K .zero) (f q)) (suc q) (m - suc q) refl (λ i l. else (suc q + i) (λ d. omega arith))
       ∙ sym (over-behind K f q (m - suc q))
       ∙ ap (λ (n : ℕ). sumOver K n (λ p. leb q p) f) e
   sum-in-parts false =
       let e : suc q + (m - suc q) ≡ m = omega arith in
-      (λ i. K .add (more-cong K g f (K .zero) 0 q (λ j l. else (0 + j) (λ d. omega arith)) i) (at-q i))
+      (λ i. K .add (more-cong K g f (K .zero) (K .zero) 0 q refl (λ j l. else (0 + j) (λ d. omega arith)) i) (at-q i))
       ∙ sym (over-before K f q (m - suc q))
       ∙ ap (λ (n : ℕ). sumOver K n (λ p. leb p q) f) e
 
@@ -173,3 +174,20 @@ module _ (K : Kind) (y : System) (a s : List (K .Cell)) (q l : ℕ) (c x o z : K
       e
       ∙ (λ i. K .add ((summed ∙ ap (λ (w : K .Elem). plusTerms K w (lineTerm K y a s q l) 0 q) begun) i) (own-term i))
       ∙ sym (ap (λ (b : Bool). cond b (plusTerms K (K .add (K .zero) (own K y a s q l)) (lineTerm K y a s q l) (suc q) (y .b .rows - suc q)) (K .add (plusTerms K (K .zero) (lineTerm K y a s q l) 0 q) (own K y a s q l))) h)
+
+-- of eight lines, with eight zeros to begin from
+module _ (K : Kind) (y : System) (a s : List (K .Cell)) (q l : ℕ) (c z : K .Elem) (zs rs : List (K .Cell)) (weighed : c ≡ ownDiag K (y .diag) (coefficient K y a q q))
+    (all : Eight K zs (λ t. z)) (begun : z ≡ K .zero) where
+  pub sums-behind : (m : ℕ) (xs : List (K .Cell)) → y .last ≡ true → m ≡ y .b .rows → Eight K xs (λ t. K .add (K .at zs t) (K .mul c (elem K s (y .b) q (l + t))))
+      → Eight K rs (λ t. plusTerms K (K .at xs t) (lineTerm K y a s q (l + t)) (q + 1) (m - 1 - q)) → Eight K rs (λ t. lineSum K y a s q (l + t))
+  sums-behind m xs h counted began e = record {
+    count = e .count;
+    sum = λ t g. sum-behind K y a s q (l + t) c _ _ (K .at zs t) weighed refl refl (all .sum t g ∙ begun) m (K .at xs t) (K .at rs t) h counted (began .sum t g) (e .sum t g);
+  }
+
+  pub sums-before : (xs : List (K .Cell)) → y .last ≡ false → Eight K xs (λ t. plusTerms K (K .at zs t) (lineTerm K y a s q (l + t)) 0 q)
+      → Eight K rs (λ t. K .add (K .at xs t) (K .mul c (elem K s (y .b) q (l + t)))) → Eight K rs (λ t. lineSum K y a s q (l + t))
+  sums-before xs h summed e = record {
+    count = e .count;
+    sum = λ t g. sum-before K y a s q (l + t) c _ _ (K .at zs t) weighed refl refl (all .sum t g ∙ begun) (K .at xs t) (K .at rs t) h (summed .sum t g) (e .sum t g);
+  }

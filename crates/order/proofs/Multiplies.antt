@@ -284,3 +284,8 @@ module _ (K : Kind) (y : System) (a : List (K .Cell)) (begin : K .Elem → K .El
       e
       ∙ (λ i. K .put s (placed i) ((weighed ∙ ap begin summed) i))
       ∙ (λ i. K .put s (index (y .b) (found i) l) (begin (lineSum K y a s (found i) l)))
+
+  -- a vector is one line
+  pub only-line : (m : ℕ) (s s' : List (K .Cell)) → y .b .cols ≡ 1 → m ≡ y .b .rows → s' ≡ walk m (λ k. multiplyOne K y a begin k 0) s → s' ≡ multiplyAll K y a begin s
+  unfolding walk
+  only-line m s s' one counted e = e ∙ (λ i. walk (sym one i) (λ l. walk (counted i) (λ k. multiplyOne K y a begin k l)) s)

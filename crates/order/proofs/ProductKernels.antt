@@ -22,8 +22,7 @@ use Rattle.blas.specs.Trmm.{trmm}
 use Rattle.blas.proofs.OutcomeLaws.{gives-work, gives-refusal}
 use Rattle.order.specs.declared.System.{System}
 use Rattle.order.specs.Triangles.{systemOf}
-use Rattle.order.specs.Multiply.{multiplyOne, multiplyAll}
-use Rattle.order.specs.Walk.{walk}
+use Rattle.order.specs.Multiply.{multiplyAll}
 use Rattle.order.proofs.InOrder.{Swaps}
 use Rattle.number.proofs.Commutes.{Commutes}
 use Rattle.order.proofs.Judged.{vector-runs, matrix-runs, all-inside}
@@ -36,13 +35,13 @@ module _ (K : Kind) (L : SlabLaws K) (W : Swaps K) (C : Commutes K) (uplo : UpLo
   trmv-refused h = gives-refusal K _ (x .slab) _ r flag answered told h
 
   pub trmv-done : flag ≡ true → (v : View) → v ≡ columnOf (x .view) → (y : System) → y ≡ systemOf Left uplo t diag (a .view) v
-      → (after : List (K .Cell)) → after ≡ walk (y .b .rows) (λ k. multiplyOne K y (a .slab) (λ z. z) k 0) (x .slab) → Gives K (trmv K uplo t diag a x) r after
-  unfolding trmv walk
+      → (after : List (K .Cell)) → after ≡ multiplyAll K y (a .slab) (λ z. z) (x .slab) → Gives K (trmv K uplo t diag a x) r after
+  unfolding trmv
   trmv-done h v columned y made after w =
       let c = columnOf (x .view) in
       gives-work K _ (x .slab) _ r flag after answered told h
       (w
-      ∙ ap (λ (u : System). walk (u .b .rows) (λ k. multiplyOne K u (a .slab) (λ z. z) k 0) (x .slab)) (made ∙ ap (λ (u : View). systemOf Left uplo t diag (a .view) u) columned)
+      ∙ ap (λ (u : System). multiplyAll K u (a .slab) (λ z. z) (x .slab)) (made ∙ ap (λ (u : View). systemOf Left uplo t diag (a .view) u) columned)
       ∙ multiplied-all K L W C Left uplo t diag (a .view) (a .slab) (λ z. z) c (x .slab)
       (all-inside Left (a .view) (K .count (a .slab)) c (K .count (x .slab)) (vector-runs (a .view) (x .view) _ _ r flag answered told h c refl))
       (vector-runs (a .view) (x .view) _ _ r flag answered told h c refl .distinct))

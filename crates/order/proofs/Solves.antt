@@ -21,7 +21,7 @@ use Rattle.view.specs.declared.UpLo.{UpLo}
 use Rattle.view.specs.declared.Diag.{Diag}
 use Rattle.view.specs.declared.Diag.the-variants.{NonUnit, Unit}
 use Rattle.view.specs.Any.{any}
-use Rattle.view.specs.AnyLaws.{found, finds, none, none-at, and-both, and-left, and-right, is-false, clash}
+use Rattle.view.specs.AnyLaws.{found, finds, and-both, and-left, and-right, is-false, clash}
 use Rattle.view.specs.Checks.{orderOf}
 use Rattle.view.specs.Judge.{answerNumber}
 use Rattle.view.specs.Place.{index}
@@ -35,7 +35,7 @@ use Rattle.blas.proofs.SubstitutionLaws.{in-order-lt, in-order-twice, first-is,
 use Rattle.order.specs.declared.System.{System}
 use Rattle.order.specs.Walk.{walk}
 use Rattle.order.specs.Triangles.{linesView, systemOf, coefficient}
-use Rattle.order.specs.Solve.{byDiag, zeroDiag, solveUnknown, solveUnknowns, zeroAfter, firstZero, anyZero, stops, answered, linesSolved, Solved}
+use Rattle.order.specs.Solve.{byDiag, zeroDiag, solveUnknown, solveUnknowns, zeroAfter, firstZero, stops, answered, linesSolved, Solved}
 use Rattle.order.proofs.WalkLaws.{walk-cong, walk-nested, walk-rounds}
 use Rattle.order.proofs.InOrder.{Swaps}
 use Rattle.number.proofs.Commutes.{Commutes}
@@ -71,13 +71,6 @@ first-nowhere f n m k e h g cleared =
     let all : k ≡ n = omega arith in
     all ∙ sym (first-none n f (subst (λ (x : ℕ). (i : ℕ) → i < x → f i ≡ false) all (cleared .none)))
 
--- a loop that asks whether the test passes somewhere, and stops at k, or does not stop
-pub any-found : (f : ℕ → Bool) (n m k : ℕ) (b : Bool) → m ≡ n → k < m → b ≡ f k → b ≡ true → true ≡ any n f
-any-found f n m k b e h told t = sym (found n f k (subst (λ (x : ℕ). k < x) e h) (sym told ∙ t))
-
-pub any-nowhere : (f : ℕ → Bool) (n m k : ℕ) → m ≡ n → m ≤ k → Clear f k → false ≡ any n f
-any-nowhere f n m k e g cleared = sym (none n f (λ i h. cleared .none i (omega arith)))
-
 -- ---- one unknown, by parts
 
 module _ (K : Kind) (y : System) (a : List (K .Cell)) where
@@ -97,26 +90,10 @@ module _ (K : Kind) (y : System) (a : List (K .Cell)) where
           K .put s (index (y .b) u l)
           (byDiag K (y .diag) (coefficient K y a u u) (minusTerms K (begin (elem K s (y .b) u l)) (λ p. K .mul (coefficient K y a u p) (elem K s (y .b) p l)) f k))
 
-  -- the unknown that is solved first has no sum
-  pub first-one-is : (begin : K .Elem → K .Elem) (l m q n : ℕ) (w x z : K .Elem) (s s' : List (K .Cell)) → m ≡ y .b .rows → q ≡ inOrder (y .last) m 0 → w ≡ elem K s (y .b) q l → x ≡ begin w
-      → z ≡ byDiag K (y .diag) (coefficient K y a q q) x → n ≡ index (y .b) q l → s' ≡ K .put s n z → s' ≡ solveUnknown K y begin a 0 l s
-  unfolding minusTerms
-  first-one-is begin l m q n w x z s s' counted here taken started divided placed e =
-      solve-one-is begin 0 l m q (leastSolved (y .last) m 0) n w x x z s s' counted here refl taken started refl divided placed e
-
   pub meets-is : (k m q : ℕ) (b : Bool) → m ≡ y .b .rows → q ≡ inOrder (y .last) m k → b ≡ zeroDiag K (y .diag) (elem K a (y .a) q q) → b ≡ zeroAfter K y a k
   unfolding zeroAfter
   meets-is k m q b counted here told =
       told ∙ ap (λ (u : ℕ). zeroDiag K (y .diag) (elem K a (y .a) u u)) (here ∙ ap (λ (c : ℕ). inOrder (y .last) c k) counted)
-
-  -- where no pivot is zero, all unknowns come before the first that is
-  pub none-zero : (m : ℕ) (b : Bool) → m ≡ y .b .rows → b ≡ anyZero K y a → b ≡ false → m ≡ firstZero K y a
-  unfolding zeroAfter
-  none-zero m b counted told h =
-      counted
-      ∙ sym
-      (first-none (y .b .rows) (zeroAfter K y a)
-      (λ i g. none-at (y .b .rows) (λ q. zeroDiag K (y .diag) (elem K a (y .a) q q)) (sym told ∙ h) (inOrder (y .last) (y .b .rows) i) (in-order-lt (y .last) (y .b .rows) i g)))
 
 -- ---- one unknown is the definition's
 
@@ -413,7 +390,7 @@ module _ (K : Kind) (C : Commutes K) (uplo : UpLo) (t : Trans) (diag : Diag) (be
           ≡ cond b (walk (reach K leftly sa) (λ i. solveUnknown K leftly begin sa i 0) s₀) (walk (vb .cols) (λ l. walk (vb .rows) (λ k. solveUnknown K leftly begin sa k l)) s₀)
       by-lines true e = refl
       by-lines false e =
-          line-after-line K L W leftly begin sa apart (reach K leftly sa) (reach-le K leftly sa) s₀
+          line-after-line K L leftly begin sa apart W (reach K leftly sa) (reach-le K leftly sa) s₀
           ∙ walk-cong (λ l. walk (reach K leftly sa) (λ k. solveUnknown K leftly begin sa k l)) (λ l. walk (vb .rows) (λ k. solveUnknown K leftly begin sa k l)) (vb .cols)
           (λ l h q. ap (λ (n : ℕ). walk n (λ k. solveUnknown K leftly begin sa k l) q) (all-solved K leftly sa e l h))
           s₀

@@ -16,6 +16,7 @@ use Rattle.view.specs.Place.{index, opViewOf, isConj}
 use Rattle.view.specs.TransposeLaws.{transposed-index, transposed-accepted, op-accepted}
 use Rattle.view.specs.Steps.{Accepted}
 use Rattle.view.specs.Vector.{columnOf}
+use Rattle.slab.specs.Distinct.{Distinct}
 use Rattle.slab.specs.Elem.{elem, Within}
 use Rattle.slab.specs.Run.{Spans}
 use Rattle.blas.specs.Matrix.{Matrix, op}
@@ -65,10 +66,6 @@ lines-index Right v p l = transposed-index v p l
 pub lines-elem : (K : Kind) (s : List (K .Cell)) (side : Side) (v : View) (p l : ℕ) → elem K s (linesView side v) p l ≡ unknown K side s v p l
 lines-elem K s side v p l = ap (K .at s) (lines-index side v p l)
 
--- a row is not the one past the last
-pub not-past : (p m : ℕ) → p < m → p ≡ m → ⊥
-not-past p m h e = omega arith
-
 -- a product of what was read
 pub weighed : (K : Kind) (c c' x x' z : K .Elem) → c ≡ c' → x ≡ x' → z ≡ K .mul c x → z ≡ K .mul c' x'
 weighed K c c' x x' z h g e = e ∙ (λ i. K .mul (h i) (g i))
@@ -78,6 +75,14 @@ weighed K c c' x x' z h g e = e ∙ (λ i. K .mul (h i) (g i))
 lines-accepted : (side : Side) (v : View) (len : ℕ) → Accepted v len → Accepted (linesView side v) len
 lines-accepted Left v len h = h
 lines-accepted Right v len h = transposed-accepted v len h
+
+lines-apart : (side : Side) (v : View) → Distinct v → Distinct (linesView side v)
+lines-apart Left v h = h
+lines-apart Right v h = record {
+  only = λ r c r' c' p q p' q' e.
+      let b = h .only c r c' r' q p q' p' (sym (transposed-index v r c) ∙ e ∙ transposed-index v r' c') in
+      (b .1, b .0);
+}
 
 module _ (uplo : UpLo) (t : Trans) (diag : Diag) (va : View) (la : ℕ) (vb : View) (lb : ℕ) where
   square-rows : (side : Side) (t' : Trans) → Sided side va la vb lb → (linesView side (opViewOf t' va)) .rows ≡ (linesView side vb) .rows
@@ -100,6 +105,7 @@ module _ (uplo : UpLo) (t : Trans) (diag : Diag) (va : View) (la : ℕ) (vb : Vi
   ready-of side s = record {
     pivots = record { a = lines-accepted side (opViewOf t va) la (op-accepted t va la (s .a)); rows = square-rows side t s; cols = square-cols side t s };
     b = lines-accepted side vb lb (s .b);
+    apart = lines-apart side vb (s .distinct);
   }
 
   -- the system that a call makes, on a slab that keeps its length

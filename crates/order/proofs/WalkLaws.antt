@@ -14,10 +14,6 @@ module _ {A : Type 0} (f : ℕ → A → A) (s₀ : A) where
   unfolding walk
   walk-next n s t h e = rw add-one (e ∙ ap (f n) h)
 
-  pub walk-one : (s : A) → s ≡ f 0 s₀ → s ≡ walk 1 f s₀
-  unfolding walk
-  walk-one s e = e
-
   -- a loop that is left at i has made n steps
   pub walk-end : (i n : ℕ) (s : A) → i ≤ n → n ≤ i → s ≡ walk i f s₀ → s ≡ walk n f s₀
   walk-end i n s h g e =
@@ -25,7 +21,7 @@ module _ {A : Type 0} (f : ℕ → A → A) (s₀ : A) where
       subst (λ (k : ℕ). s ≡ walk k f s₀) q e
 
   -- n steps and k more
-  pub walk-add : (n k : ℕ) → walk k (λ i. f (n + i)) (walk n f s₀) ≡ walk (n + k) f s₀
+  walk-add : (n k : ℕ) → walk k (λ i. f (n + i)) (walk n f s₀) ≡ walk (n + k) f s₀
   unfolding walk
   walk-add n zero =
       let e : n ≡ n + 0 = omega arith in
@@ -33,6 +29,14 @@ module _ {A : Type 0} (f : ℕ → A → A) (s₀ : A) where
   walk-add n (suc k) =
       let e : suc (n + k) ≡ n + suc k = omega arith in
       ap (f (n + k)) (walk-add n k) ∙ ap (λ (m : ℕ). walk m f s₀) e
+
+  -- a block of steps: the first of them, after l steps in all, is step `first` of those from `from` on
+  pub walk-block : (l n from first more : ℕ) (s t : A) → from + first ≡ l → l + more ≡ n → s ≡ walk l f s₀ → t ≡ walk more (λ i. f (from + (first + i))) s → t ≡ walk n f s₀
+  walk-block l n from first more s t d c h e =
+      e ∙ (λ j. walk more (λ i. f (same i j)) (h j)) ∙ walk-add l more ∙ ap (λ (k : ℕ). walk k f s₀) c
+    where
+      same : (i : ℕ) → from + (first + i) ≡ l + i
+      same i = omega arith
 
 -- steps that agree below n
 pub walk-cong : {A : Type 0} (f g : ℕ → A → A) (n : ℕ) → ((i : ℕ) → i < n → (s : A) → f i s ≡ g i s) → (s : A) → walk n f s ≡ walk n g s

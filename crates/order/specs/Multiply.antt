@@ -39,9 +39,12 @@ module _ (K : Kind) (y : System) (a : List (K .Cell)) where
     multiplyOne k l s =
         K .put s (index (y .b) (inOrder (not (y .last)) (y .b .rows) k) l) (begin (lineSum s (inOrder (not (y .last)) (y .b .rows) k) l))
 
-    -- the first m elements of line l, and all of B
+    -- the first m elements of line l, the element after k others in every line, and all of B
     abbrev pub multiplyLine : ℕ → ℕ → List (K .Cell) → List (K .Cell)
     multiplyLine l m s = walk m (λ k. multiplyOne k l) s
+
+    abbrev pub multiplyAcross : ℕ → List (K .Cell) → List (K .Cell)
+    multiplyAcross k s = walk (y .b .cols) (λ l. multiplyOne k l) s
 
     abbrev pub multiplyAll : List (K .Cell) → List (K .Cell)
     multiplyAll s = walk (y .b .cols) (λ l. multiplyLine l (y .b .rows)) s

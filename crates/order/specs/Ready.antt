@@ -1,4 +1,5 @@
--- What the triangular engine asks of its caller: that what it reads and writes is inside the slabs, of la and lb elements.
+-- What the triangular engine asks of its caller: that what it reads and writes is inside the slabs, of la and lb elements, and that what it
+-- writes lies apart.
 use Prim.Native.Nat.{ℕ, _<_}
 use mathlib.Core.Path.{_≡_}
 use Rattle.view.specs.declared.View.{View}
@@ -17,6 +18,7 @@ pub record Pivots (y : System) (la : ℕ) : Type 0 where
 pub record Ready (y : System) (la lb : ℕ) : Type 0 where
   pub pivots : Pivots y la
   pub b : Accepted (y .b) lb
+  pub apart : Distinct (y .b)
 
 -- unknown q, or the one that comes after q others, of line l
 pub record ReadyAt (y : System) (la lb q l : ℕ) : Type 0 where

@@ -11,7 +11,6 @@ use Rattle.view.specs.declared.Diag.{Diag}
 use Rattle.view.specs.declared.Diag.the-variants.{NonUnit, Unit}
 use Rattle.view.specs.declared.Side.{Side}
 use Rattle.view.specs.declared.Side.the-variants.{Left, Right}
-use Rattle.view.specs.Any.{any}
 use Rattle.view.specs.Place.{index}
 use Rattle.slab.specs.Elem.{elem}
 use Rattle.blas.specs.Substitution.{inOrder, leastSolved, minusTerms, firstAt}
@@ -53,10 +52,6 @@ zeroAfter K y a k = zeroDiag K (y .diag) (elem K a (y .a) (inOrder (y .last) (y 
 
 abbrev pub firstZero : (K : Kind) → System → List (K .Cell) → ℕ
 firstZero K y a = firstAt (y .b .rows) (zeroAfter K y a)
-
--- whether some pivot is zero
-abbrev pub anyZero : (K : Kind) → System → List (K .Cell) → Bool
-anyZero K y a = any (y .b .rows) (λ q. zeroDiag K (y .diag) (elem K a (y .a) q q))
 
 -- whether a solve stops where k unknowns come before the first zero pivot: there is a line, and not all unknowns do
 unfoldable pub stops : System → ℕ → Bool

@@ -3,27 +3,19 @@
 
 ghost use mathlib.Core.Path.{_≡_};
 ghost use Prim.Native.Nat.{_≤_, _<_, _+_};
-ghost use Rattle.view.specs.Steps.{Shown};
 ghost use Rattle.blas.specs.Triangular as triangular;
 ghost use Rattle.blas.specs.Substitution as substitution;
 ghost use Rattle.order.specs.Triangles.{isLeft, linesView, systemOf};
-ghost use Rattle.order.specs.Places.{PlacesAt, StepsBy, onwardOf};
 ghost use Rattle.order.specs.Solve as solve;
-use std::num::wrapping_add_usize;
-use std::num::wrapping_sub_usize;
 use view::Answer;
 use view::Diag;
 use view::Side;
 use view::Trans;
 use view::UpLo;
 use view::View;
-use view::col_step;
 use view::cols;
 use view::conjugates;
-use view::diagonal_step;
 use view::op_view;
-use view::place;
-use view::row_step;
 use view::rows;
 use view::transposed;
 
@@ -128,89 +120,6 @@ pub fn system_of(side: Side, uplo: UpLo, t: Trans, diag: Diag, a: View, b: View)
         last,
         a: va,
         b: vb,
-    }
-}
-
-// Places of an unknown in the solve of a vector: of its pivot and its first coefficient, its own, that of the first unknown in its sum, and that
-// one step past the last. Or what each adds to come to the next unknown, modulo 2^64.
-pub struct Places {
-    pub pivot: usize,
-    pub first: usize,
-    pub own: usize,
-    pub solved: usize,
-    pub stop: usize,
-}
-
-// The places of the unknown that is solved first.
-pub fn places_of(sys: System) -> Places
-    requires { ⌜ Shown (sys .a) (substitution.inOrder (sys .last) (sys .b .rows) 0) (substitution.inOrder (sys .last) (sys .b .rows) 0) × Shown (sys .b) (substitution.inOrder (sys .last) (sys .b .rows) 0) 0 ⌝ }
-    ensures { λ r. ⌜ PlacesAt (sys .last) sys 0 r ⌝ }
-{
-    let along = col_step(sys.a);
-    let down = row_step(sys.b);
-    if sys.last {
-        let q = rows(sys.b) - 1;
-        let pivot = place(sys.a, q, q);
-        let own = place(sys.b, q, 0);
-        let past = wrapping_add_usize(own, down);
-        Places {
-            pivot,
-            first: wrapping_add_usize(pivot, along),
-            own,
-            solved: past,
-            stop: past,
-        }
-    } else {
-        let pivot = place(sys.a, 0, 0);
-        let own = place(sys.b, 0, 0);
-        Places {
-            pivot,
-            first: pivot,
-            own,
-            solved: own,
-            stop: own,
-        }
-    }
-}
-
-// What they add.
-pub fn steps_of(sys: System) -> Places
-    ensures { λ r. ⌜ StepsBy (sys .last) sys r ⌝ }
-{
-    let skip = row_step(sys.a);
-    let down = row_step(sys.b);
-    let diagonal = diagonal_step(sys.a);
-    if sys.last {
-        let back = wrapping_sub_usize(0, diagonal);
-        let up = wrapping_sub_usize(0, down);
-        Places {
-            pivot: back,
-            first: back,
-            own: up,
-            solved: up,
-            stop: 0,
-        }
-    } else {
-        Places {
-            pivot: diagonal,
-            first: skip,
-            own: down,
-            solved: 0,
-            stop: down,
-        }
-    }
-}
-
-// The places of the next unknown.
-pub fn onward(at: Places, by: Places) -> Places
-    ensures { λ r. ⌜ r ≡ onwardOf at by ⌝ }
-{
-    Places {
-        pivot: wrapping_add_usize(at.pivot, by.pivot),
-        first: wrapping_add_usize(at.first, by.first),
-        own: wrapping_add_usize(at.own, by.own),
-        solved: wrapping_add_usize(at.solved, by.solved),
-        stop: wrapping_add_usize(at.stop, by.stop),
     }
 }
 

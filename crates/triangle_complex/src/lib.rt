@@ -4,24 +4,21 @@
 ghost use mathlib.Core.Path.{_≡_};
 ghost use Prim.Native.Nat.{_≤_, _<_};
 ghost use Rattle.number.specs.Kind.{complex};
-ghost use Rattle.view.specs.Place.{index};
 ghost use Rattle.view.specs.Steps.{Accepted};
 ghost use Rattle.slab.specs.Elem.{elem, lent, Within};
 ghost use Rattle.slab.specs.Run.{elemConj, plusTerms, Spans};
 ghost use Rattle.slab.specs.Update.{updateOne, updateRow, everywhere};
 ghost use Rattle.blas.specs.Outcome.{Gives};
-ghost use Rattle.blas.specs.Substitution.{minusTerms, inOrder};
+ghost use Rattle.blas.specs.Substitution.{minusTerms};
 ghost use Rattle.blas.specs.Trsm.{timesAlpha, sidedSolve};
 ghost use Rattle.blas.specs.Trsm;
 ghost use Rattle.blas.specs.Trsv;
 ghost use Rattle.blas.specs.Trmm;
 ghost use Rattle.blas.specs.Trmv;
-ghost use Rattle.order.specs.Walk.{walk};
 ghost use Rattle.order.specs.Triangles as triangles;
 ghost use Rattle.order.specs.Triangles.{timesIf};
 ghost use Rattle.order.specs.Solve as solve;
 ghost use Rattle.order.specs.Multiply as multiply;
-ghost use Rattle.order.specs.Places.{PlacesAt, Begins};
 ghost use Rattle.order.specs.Ready.{Pivots, Ready, ReadyAt, Sided};
 use judge::check_trmm;
 use judge::check_trmv;
@@ -30,44 +27,27 @@ use judge::check_trsv;
 use judge::quick_trmm;
 use judge::quick_trmv;
 use number::Complex;
-use order::Places;
 use order::System;
 use order::in_order;
 use order::is_left;
 use order::least_solved;
 use order::lines_solved;
-use order::onward;
-use order::places_of;
 use order::solved;
-use order::steps_of;
 use order::stops;
 use order::system_of;
 use slab::elem_complex;
-use slab::get_complex;
 use slab::put_complex;
-use std::num::wrapping_add_usize;
 use view::Answer;
 use view::Diag;
 use view::Side;
 use view::Trans;
 use view::UpLo;
 use view::View;
-use view::col_step;
 use view::cols;
 use view::column;
 use view::passed;
 use view::place;
-use view::row_step;
 use view::rows;
-
-// Element (i, j) of a view, at place k, conjugated or not.
-fn read(conjugated: bool, s: &[f64], v: View, i: usize, j: usize, k: usize) -> Complex
-    requires { ⌜ Within v (complex .count (now s)) i j × (k ≡ index v i j) ⌝ }
-    ensures { λ r. ⌜ r ≡ elemConj complex conjugated (now (s .entry)) v i j ⌝ }
-{
-    let x = get_complex(s, k);
-    if conjugated { x.conj() } else { x }
-}
 
 // Element (i, j) of a view, conjugated or not.
 fn at(conjugated: bool, s: &[f64], v: View, i: usize, j: usize) -> Complex
@@ -95,11 +75,11 @@ fn reduce(
     ensures { λ r. ⌜ r ≡ minusTerms complex x (λ p. complex .mul (elemConj complex conjugated (now (a .entry)) va q p) (elem complex (now (b .entry)) vb p l)) from n ⌝ }
 {
     let mut rest = x;
-    let mut i = 0;
-    while i < n {
-        let p = from + i;
+    let end = from + n;
+    let mut p = from;
+    while p < end {
         rest = rest.sub(at(conjugated, a, va, q, p).mul(elem_complex(b, vb, p, l)));
-        i += 1;
+        p += 1;
     }
     rest
 }
@@ -121,41 +101,33 @@ fn add_run(
     ensures { λ r. ⌜ r ≡ plusTerms complex x (λ p. complex .mul (elemConj complex conjugated (now (a .entry)) va q p) (elem complex (now (b .entry)) vb p l)) from n ⌝ }
 {
     let mut sum = x;
-    let mut i = 0;
-    while i < n {
-        let p = from + i;
+    let end = from + n;
+    let mut p = from;
+    while p < end {
         sum = sum.add(at(conjugated, a, va, q, p).mul(elem_complex(b, vb, p, l)));
-        i += 1;
+        p += 1;
     }
     sum
 }
 
-// x divided by pivot q, which is at place `pivot`.
-fn by_pivot(
-    diag: Diag,
-    conjugated: bool,
-    a: &[f64],
-    va: View,
-    q: usize,
-    pivot: usize,
-    x: Complex,
-) -> Complex
-    requires { ⌜ Within va (complex .count (now a)) q q × (pivot ≡ index va q q) ⌝ }
+// x divided by pivot q.
+fn by_pivot(diag: Diag, conjugated: bool, a: &[f64], va: View, q: usize, x: Complex) -> Complex
+    requires { ⌜ Within va (complex .count (now a)) q q ⌝ }
     ensures { λ r. ⌜ r ≡ solve.byDiag complex diag (elemConj complex conjugated (now (a .entry)) va q q) x ⌝ }
 {
     match diag {
-        Diag::NonUnit => x.div(read(conjugated, a, va, q, q, pivot)),
+        Diag::NonUnit => x.div(at(conjugated, a, va, q, q)),
         Diag::Unit => x,
     }
 }
 
-// Whether pivot q, which is at place `pivot`, is zero.
-fn zero_pivot(diag: Diag, a: &[f64], va: View, q: usize, pivot: usize) -> bool
-    requires { ⌜ Within va (complex .count (now a)) q q × (pivot ≡ index va q q) ⌝ }
+// Whether pivot q is zero.
+fn zero_pivot(diag: Diag, a: &[f64], va: View, q: usize) -> bool
+    requires { ⌜ Within va (complex .count (now a)) q q ⌝ }
     ensures { λ r. ⌜ r ≡ solve.zeroDiag complex diag (elem complex (now (a .entry)) va q q) ⌝ }
 {
     match diag {
-        Diag::NonUnit => get_complex(a, pivot).is_zero(),
+        Diag::NonUnit => elem_complex(a, va, q, q).is_zero(),
         Diag::Unit => false,
     }
 }
@@ -178,117 +150,32 @@ fn solve_one(sys: System, times: bool, alpha: Complex, a: &[f64], b: &mut [f64],
     let from = least_solved(sys.last, m, k);
     let x = times_if(times, alpha, elem_complex(b, sys.b, q, l));
     let rest = reduce(sys.conjugated, a, sys.a, b, sys.b, q, l, from, k, x);
-    let y = by_pivot(diag, sys.conjugated, a, sys.a, q, place(sys.a, q, q), rest);
+    let y = by_pivot(diag, sys.conjugated, a, sys.a, q, rest);
     put_complex(b, place(sys.b, q, l), y);
 }
 
-// x less the term of row q of a and a vector at p, whose factors are at places c and u.
-fn less_at(
-    conjugated: bool,
-    a: &[f64],
-    va: View,
-    b: &[f64],
-    vb: View,
-    q: usize,
-    p: usize,
-    c: usize,
-    u: usize,
-    x: Complex,
-) -> Complex
-    requires { ⌜ Within va (complex .count (now a)) q p × Within vb (complex .count (now b)) p 0 × (c ≡ index va q p) × (u ≡ index vb p 0) ⌝ }
-    ensures { λ r. ⌜ r ≡ complex .sub x (complex .mul (elemConj complex conjugated (now (a .entry)) va q p) (elem complex (now (b .entry)) vb p 0)) ⌝ }
-{
-    x.sub(read(conjugated, a, va, q, p, c).mul(get_complex(b, u)))
-}
-
-// x less n such terms of a vector, the first from places `first` and `solved` on.
-fn reduce_along(
-    conjugated: bool,
-    a: &[f64],
-    va: View,
-    b: &[f64],
-    vb: View,
-    q: usize,
-    from: usize,
-    n: usize,
-    x: Complex,
-    first: usize,
-    solved: usize,
-) -> Complex
-    requires { ⌜ Spans va (complex .count (now a)) vb (complex .count (now b)) q 0 from n × Begins va vb q from n first solved ⌝ }
-    ensures { λ r. ⌜ r ≡ minusTerms complex x (λ p. complex .mul (elemConj complex conjugated (now (a .entry)) va q p) (elem complex (now (b .entry)) vb p 0)) from n ⌝ }
-{
-    let along = col_step(va);
-    let down = row_step(vb);
-    let mut rest = x;
-    let mut c = first;
-    let mut u = solved;
-    let mut i = 0;
-    while i < n {
-        rest = less_at(conjugated, a, va, b, vb, q, from + i, c, u, rest);
-        c = wrapping_add_usize(c, along);
-        u = wrapping_add_usize(u, down);
-        i += 1;
-    }
-    rest
-}
-
-// The unknown of a vector that comes after k others, at these places, solved.
-fn solve_next(sys: System, a: &[f64], b: &mut [f64], k: usize, at: Places)
-    requires { ⌜ ReadyAt sys (complex .count (now a)) (complex .count (now b)) k 0 × PlacesAt (sys .last) sys k at ⌝ }
-    ensures { λ _. ⌜ now (b .exit) ≡ solve.solveUnknown complex sys (λ x. x) (now (a .entry)) k 0 (now (b .entry)) ⌝ }
-{
-    let diag = sys.diag;
-    let m = rows(sys.b);
-    let q = in_order(sys.last, m, k);
-    let from = least_solved(sys.last, m, k);
-    let own = at.own;
-    let x = get_complex(b, own);
-    let rest = reduce_along(
-        sys.conjugated,
-        a,
-        sys.a,
-        b,
-        sys.b,
-        q,
-        from,
-        k,
-        x,
-        at.first,
-        at.solved,
-    );
-    let y = by_pivot(diag, sys.conjugated, a, sys.a, q, at.pivot, rest);
-    put_complex(b, own, y);
-}
-
-// Whether the pivot of the unknown that comes after k others, which is at place `pivot`, is zero.
-fn meets_zero(sys: System, a: &[f64], k: usize, pivot: usize) -> bool
-    requires { ⌜ Pivots sys (complex .count (now a)) × (k < sys .b .rows) × (pivot ≡ index (sys .a) (inOrder (sys .last) (sys .b .rows) k) (inOrder (sys .last) (sys .b .rows) k)) ⌝ }
+// Whether the pivot of the unknown that comes after k others is zero.
+fn meets_zero(sys: System, a: &[f64], k: usize) -> bool
+    requires { ⌜ Pivots sys (complex .count (now a)) × (k < sys .b .rows) ⌝ }
     ensures { λ r. ⌜ r ≡ solve.zeroAfter complex sys (now (a .entry)) k ⌝ }
 {
     let diag = sys.diag;
     let q = in_order(sys.last, rows(sys.b), k);
-    zero_pivot(diag, a, sys.a, q, pivot)
+    zero_pivot(diag, a, sys.a, q)
 }
 
-// The unknowns of a vector, up to the first zero pivot.
+// The unknowns of a vector, which no alpha multiplies, up to the first zero pivot.
 fn solve_vector(sys: System, a: &[f64], b: &mut [f64]) -> Answer
     requires { ⌜ Ready sys (complex .count (now a)) (complex .count (now b)) × (sys .b .cols ≡ 1) ⌝ }
     ensures { λ r. ⌜ solve.Solved complex sys (λ x. x) (now (a .entry)) (now (b .entry)) r (now (b .exit)) ⌝ }
 {
     let n = rows(sys.b);
-    if n == 0 {
-        return Answer::Done;
-    }
-    let by = steps_of(sys);
-    let mut at = places_of(sys);
     let mut k = 0;
     while k < n {
-        if meets_zero(sys, a, k, at.pivot) {
+        if meets_zero(sys, a, k) {
             return Answer::Singular;
         }
-        solve_next(sys, a, b, k, at);
-        at = onward(at, by);
+        solve_one(sys, false, Complex::ONE, a, b, k, 0);
         k += 1;
     }
     Answer::Done
@@ -302,8 +189,7 @@ fn first_zero(sys: System, a: &[f64]) -> usize
     let m = rows(sys.b);
     let mut k = 0;
     while k < m {
-        let q = in_order(sys.last, m, k);
-        if meets_zero(sys, a, k, place(sys.a, q, q)) {
+        if meets_zero(sys, a, k) {
             return k;
         }
         k += 1;
@@ -461,80 +347,46 @@ fn line_sum(sys: System, a: &[f64], b: &[f64], q: usize, l: usize) -> Complex
 }
 
 // The element of line l that comes after k others, multiplied.
-fn multiply_one(sys: System, alpha: Complex, a: &[f64], b: &mut [f64], k: usize, l: usize)
+fn multiply_one(
+    sys: System,
+    times: bool,
+    alpha: Complex,
+    a: &[f64],
+    b: &mut [f64],
+    k: usize,
+    l: usize,
+)
     requires { ⌜ ReadyAt sys (complex .count (now a)) (complex .count (now b)) k l ⌝ }
-    ensures { λ _. ⌜ now (b .exit) ≡ multiply.multiplyOne complex sys (now (a .entry)) (complex .mul alpha) k l (now (b .entry)) ⌝ }
+    ensures { λ _. ⌜ now (b .exit) ≡ multiply.multiplyOne complex sys (now (a .entry)) (timesIf complex times alpha) k l (now (b .entry)) ⌝ }
 {
     let q = in_order(!sys.last, rows(sys.b), k);
-    let x = alpha.mul(line_sum(sys, a, b, q, l));
+    let x = times_if(times, alpha, line_sum(sys, a, b, q, l));
     put_complex(b, place(sys.b, q, l), x);
 }
 
 // Line l of B, in the order that reads no written element.
-fn multiply_line(sys: System, alpha: Complex, a: &[f64], b: &mut [f64], l: usize)
+fn multiply_line(sys: System, times: bool, alpha: Complex, a: &[f64], b: &mut [f64], l: usize)
     requires { ⌜ Ready sys (complex .count (now a)) (complex .count (now b)) × (l < sys .b .cols) ⌝ }
-    ensures { λ _. ⌜ now (b .exit) ≡ multiply.multiplyLine complex sys (now (a .entry)) (complex .mul alpha) l (sys .b .rows) (now (b .entry)) ⌝ }
+    ensures { λ _. ⌜ now (b .exit) ≡ multiply.multiplyLine complex sys (now (a .entry)) (timesIf complex times alpha) l (sys .b .rows) (now (b .entry)) ⌝ }
 {
     let m = rows(sys.b);
     let mut k = 0;
     while k < m {
-        multiply_one(sys, alpha, a, b, k, l);
+        multiply_one(sys, times, alpha, a, b, k, l);
         k += 1;
     }
 }
 
 // All of B, line after line.
-fn multiply(sys: System, alpha: Complex, a: &[f64], b: &mut [f64])
+fn multiply(sys: System, times: bool, alpha: Complex, a: &[f64], b: &mut [f64])
     requires { ⌜ Ready sys (complex .count (now a)) (complex .count (now b)) ⌝ }
-    ensures { λ _. ⌜ now (b .exit) ≡ multiply.multiplyAll complex sys (now (a .entry)) (complex .mul alpha) (now (b .entry)) ⌝ }
+    ensures { λ _. ⌜ now (b .exit) ≡ multiply.multiplyAll complex sys (now (a .entry)) (timesIf complex times alpha) (now (b .entry)) ⌝ }
 {
     let n = cols(sys.b);
     let mut l = 0;
     while l < n {
-        multiply_line(sys, alpha, a, b, l);
+        multiply_line(sys, times, alpha, a, b, l);
         l += 1;
-    }
-}
-
-// Element q of the product with a vector.
-fn vector_sum(sys: System, a: &[f64], b: &[f64], q: usize) -> Complex
-    requires { ⌜ ReadyAt sys (complex .count (now a)) (complex .count (now b)) q 0 ⌝ }
-    ensures { λ r. ⌜ r ≡ multiply.lineSum complex sys (now (a .entry)) (now (b .entry)) q 0 ⌝ }
-{
-    let diag = sys.diag;
-    let c = own_weight(diag, sys.conjugated, a, sys.a, q);
-    let own = c.mul(elem_complex(b, sys.b, q, 0));
-    if sys.last {
-        let n = rows(sys.b) - 1 - q;
-        let x = Complex::ZERO.add(own);
-        add_run(sys.conjugated, a, sys.a, b, sys.b, q, 0, q + 1, n, x)
-    } else {
-        let x = Complex::ZERO;
-        let sum = add_run(sys.conjugated, a, sys.a, b, sys.b, q, 0, 0, q, x);
-        sum.add(own)
-    }
-}
-
-// The element of a vector that comes after k others, multiplied.
-fn multiply_next(sys: System, a: &[f64], b: &mut [f64], k: usize)
-    requires { ⌜ ReadyAt sys (complex .count (now a)) (complex .count (now b)) k 0 ⌝ }
-    ensures { λ _. ⌜ now (b .exit) ≡ multiply.multiplyOne complex sys (now (a .entry)) (λ x. x) k 0 (now (b .entry)) ⌝ }
-{
-    let q = in_order(!sys.last, rows(sys.b), k);
-    let x = vector_sum(sys, a, b, q);
-    put_complex(b, place(sys.b, q, 0), x);
-}
-
-// All of a vector, in that order.
-fn multiply_vector(sys: System, a: &[f64], b: &mut [f64])
-    requires { ⌜ Ready sys (complex .count (now a)) (complex .count (now b)) × (sys .b .cols ≡ 1) ⌝ }
-    ensures { λ _. ⌜ now (b .exit) ≡ walk (sys .b .rows) (λ k. multiply.multiplyOne complex sys (now (a .entry)) (λ x. x) k 0) (now (b .entry)) ⌝ }
-{
-    let m = rows(sys.b);
-    let mut k = 0;
-    while k < m {
-        multiply_next(sys, a, b, k);
-        k += 1;
     }
 }
 
@@ -555,7 +407,7 @@ pub fn trmv(
     if passed(answer) {
         let v = column(vx, va.rows);
         let sys = system_of(Side::Left, uplo, trans, diag, va, v);
-        multiply_vector(sys, a, x);
+        multiply(sys, false, Complex::ONE, a, x);
     }
     answer
 }
@@ -578,7 +430,7 @@ pub fn trmm(
     let answer = check_trmm(quick, side, va, a.len() / 2, vb, b.len() / 2);
     if passed(answer) {
         let sys = system_of(side, uplo, trans, diag, va, vb);
-        multiply(sys, alpha, a, b);
+        multiply(sys, true, alpha, a, b);
     }
     answer
 }

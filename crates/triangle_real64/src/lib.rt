@@ -2,25 +2,26 @@
 // Translated from control-rs; NOTICE names the source.
 
 ghost use mathlib.Core.Path.{_≡_};
-ghost use Prim.Native.Nat.{_≤_, _<_};
+ghost use Prim.Native.Nat.{_≤_, _<_, _+_, _-_};
 ghost use Rattle.number.specs.Kind.{real64};
-ghost use Rattle.view.specs.Place.{index};
 ghost use Rattle.view.specs.Steps.{Accepted};
-ghost use Rattle.slab.specs.Distinct.{Distinct};
+ghost use Rattle.slab.specs.Eight.{Eight};
 ghost use Rattle.slab.specs.Elem.{elem, lent, Within};
 ghost use Rattle.slab.specs.Run.{elemConj, plusTerms, Spans};
 ghost use Rattle.slab.specs.Update.{updateOne, updateRow, everywhere};
 ghost use Rattle.blas.specs.Outcome.{Gives};
-ghost use Rattle.blas.specs.Substitution.{minusTerms, inOrder};
+ghost use Rattle.blas.specs.Substitution.{minusTerms};
 ghost use Rattle.blas.specs.Trsm.{timesAlpha, sidedSolve};
 ghost use Rattle.blas.specs.Trsm;
 ghost use Rattle.blas.specs.Trsv;
 ghost use Rattle.blas.specs.Trmm;
 ghost use Rattle.blas.specs.Trmv;
 ghost use Rattle.order.specs.Walk.{walk};
+ghost use Rattle.order.specs.Triangles as triangles;
+ghost use Rattle.order.specs.Triangles.{timesIf};
+ghost use Rattle.order.specs.Eights.{putEight};
 ghost use Rattle.order.specs.Solve as solve;
 ghost use Rattle.order.specs.Multiply as multiply;
-ghost use Rattle.order.specs.Places.{PlacesAt, Begins, Ends};
 ghost use Rattle.order.specs.Ready.{Pivots, Ready, ReadyAt, Sided};
 use judge::check_trmm;
 use judge::check_trmv;
@@ -29,42 +30,31 @@ use judge::check_trsv;
 use judge::quick_trmm;
 use judge::quick_trmv;
 use number::Real64;
-use order::Places;
 use order::System;
 use order::in_order;
+use order::is_left;
 use order::least_solved;
 use order::lines_solved;
-use order::onward;
-use order::places_of;
 use order::solved;
-use order::steps_of;
 use order::stops;
 use order::system_of;
+use slab::add_eight64;
+use slab::block_end;
+use slab::block_start;
 use slab::elem64;
-use slab::get64;
 use slab::put64;
-use std::num::wrapping_add_usize;
+use slab::sub_eight64;
 use view::Answer;
 use view::Diag;
 use view::Side;
 use view::Trans;
 use view::UpLo;
 use view::View;
-use view::col_step;
 use view::cols;
 use view::column;
 use view::passed;
 use view::place;
-use view::row_step;
 use view::rows;
-
-// Element (i, j) of a view, at place k: a real number is its own conjugate.
-fn read(conjugated: bool, s: &[f64], v: View, i: usize, j: usize, k: usize) -> Real64
-    requires { ⌜ Within v (real64 .count (now s)) i j × (k ≡ index v i j) ⌝ }
-    ensures { λ r. ⌜ r .0 ≡ elemConj real64 conjugated (now (s .entry)) v i j ⌝ }
-{
-    get64(s, k)
-}
 
 // Element (i, j) of a view: a real number is its own conjugate.
 fn at(conjugated: bool, s: &[f64], v: View, i: usize, j: usize) -> Real64
@@ -74,27 +64,7 @@ fn at(conjugated: bool, s: &[f64], v: View, i: usize, j: usize) -> Real64
     elem64(s, v, i, j)
 }
 
-// x less the term of row q by column l at p.
-fn less_term(
-    conjugated: bool,
-    a: &[f64],
-    va: View,
-    b: &[f64],
-    vb: View,
-    q: usize,
-    l: usize,
-    p: usize,
-    x: f64,
-) -> f64
-    requires { ⌜ Within va (real64 .count (now a)) q p × Within vb (real64 .count (now b)) p l ⌝ }
-    ensures { λ r. ⌜ r ≡ real64 .sub x (real64 .mul (elemConj real64 conjugated (now (a .entry)) va q p) (elem real64 (now (b .entry)) vb p l)) ⌝ }
-{
-    Real64(x)
-        .sub(at(conjugated, a, va, q, p).mul(elem64(b, vb, p, l)))
-        .0
-}
-
-// x less n such terms, from `from` on, two of them in a round.
+// x less n terms of row q by column l, from `from` on.
 fn reduce(
     conjugated: bool,
     a: &[f64],
@@ -110,20 +80,16 @@ fn reduce(
     requires { ⌜ Spans va (real64 .count (now a)) vb (real64 .count (now b)) q l from n ⌝ }
     ensures { λ r. ⌜ r ≡ minusTerms real64 x (λ p. real64 .mul (elemConj real64 conjugated (now (a .entry)) va q p) (elem real64 (now (b .entry)) vb p l)) from n ⌝ }
 {
-    let pairs = n / 2;
     let mut rest = x;
-    let mut i = 0;
-    while i < pairs {
-        let k = 2 * i;
-        rest = less_term(conjugated, a, va, b, vb, q, l, from + k, rest);
-        rest = less_term(conjugated, a, va, b, vb, q, l, from + (k + 1), rest);
-        i += 1;
+    let end = from + n;
+    let mut p = from;
+    while p < end {
+        rest = Real64(rest)
+            .sub(at(conjugated, a, va, q, p).mul(elem64(b, vb, p, l)))
+            .0;
+        p += 1;
     }
-    if 2 * i < n {
-        less_term(conjugated, a, va, b, vb, q, l, from + 2 * i, rest)
-    } else {
-        rest
-    }
+    rest
 }
 
 // x and n such terms more.
@@ -143,231 +109,254 @@ fn add_run(
     ensures { λ r. ⌜ r ≡ plusTerms real64 x (λ p. real64 .mul (elemConj real64 conjugated (now (a .entry)) va q p) (elem real64 (now (b .entry)) vb p l)) from n ⌝ }
 {
     let mut sum = x;
-    let mut i = 0;
-    while i < n {
-        let p = from + i;
-        // Never so: p is a row of b. A loop with two ways out is not unrolled, which serves short sums.
-        if p == vb.rows {
-            return sum;
-        }
+    let end = from + n;
+    let mut p = from;
+    while p < end {
         sum = Real64(sum)
             .add(at(conjugated, a, va, q, p).mul(elem64(b, vb, p, l)))
             .0;
-        i += 1;
+        p += 1;
     }
     sum
 }
 
-// x divided by pivot q, which is at place `pivot`.
-fn by_pivot(
+// x divided by pivot q.
+fn by_pivot(diag: Diag, conjugated: bool, a: &[f64], va: View, q: usize, x: f64) -> f64
+    requires { ⌜ Within va (real64 .count (now a)) q q ⌝ }
+    ensures { λ r. ⌜ r ≡ solve.byDiag real64 diag (elemConj real64 conjugated (now (a .entry)) va q q) x ⌝ }
+{
+    match diag {
+        Diag::NonUnit => Real64(x).div(at(conjugated, a, va, q, q)).0,
+        Diag::Unit => x,
+    }
+}
+
+// Whether pivot q is zero.
+fn zero_pivot(diag: Diag, a: &[f64], va: View, q: usize) -> bool
+    requires { ⌜ Within va (real64 .count (now a)) q q ⌝ }
+    ensures { λ r. ⌜ r ≡ solve.zeroDiag real64 diag (elem real64 (now (a .entry)) va q q) ⌝ }
+{
+    match diag {
+        Diag::NonUnit => elem64(a, va, q, q).is_zero(),
+        Diag::Unit => false,
+    }
+}
+
+// x times alpha, or as it is.
+fn times_if(times: bool, alpha: Real64, x: Real64) -> Real64
+    ensures { λ r. ⌜ r .0 ≡ timesIf real64 times (alpha .0) (x .0) ⌝ }
+{
+    if times { alpha.mul(x) } else { x }
+}
+
+// The unknown of line l that comes after k others, solved.
+fn solve_one(sys: System, times: bool, alpha: Real64, a: &[f64], b: &mut [f64], k: usize, l: usize)
+    requires { ⌜ ReadyAt sys (real64 .count (now a)) (real64 .count (now b)) k l ⌝ }
+    ensures { λ _. ⌜ now (b .exit) ≡ solve.solveUnknown real64 sys (timesIf real64 times (alpha .0)) (now (a .entry)) k l (now (b .entry)) ⌝ }
+{
+    let diag = sys.diag;
+    let m = rows(sys.b);
+    let q = in_order(sys.last, m, k);
+    let from = least_solved(sys.last, m, k);
+    let x = times_if(times, alpha, elem64(b, sys.b, q, l)).0;
+    let rest = reduce(sys.conjugated, a, sys.a, b, sys.b, q, l, from, k, x);
+    let y = by_pivot(diag, sys.conjugated, a, sys.a, q, rest);
+    put64(b, place(sys.b, q, l), Real64(y));
+}
+
+// The eight elements of row q of a view from column l on.
+fn eight_at(s: &[f64], v: View, q: usize, l: usize) -> [f64; 8]
+    requires { ⌜ Within v (real64 .count (now s)) q (l + 7) ⌝ }
+    ensures { λ r. ⌜ Eight real64 r (λ t. elem real64 (now (s .entry)) v q (l + t)) ⌝ }
+{
+    let mut next = [0.0; 8];
+    let mut t = 0;
+    while t < 8 {
+        next[t] = elem64(s, v, q, l + t).0;
+        t += 1;
+    }
+    next
+}
+
+// Eight numbers times alpha.
+fn times_eight(alpha: Real64, xs: [f64; 8]) -> [f64; 8]
+    ensures { λ r. ⌜ Eight real64 r (λ t. real64 .mul (alpha .0) (real64 .at xs t)) ⌝ }
+{
+    let mut next = xs;
+    let mut t = 0;
+    while t < 8 {
+        next[t] = alpha.mul(Real64(next[t])).0;
+        t += 1;
+    }
+    next
+}
+
+// Eight numbers divided by d.
+fn over_eight(xs: [f64; 8], d: Real64) -> [f64; 8]
+    ensures { λ r. ⌜ Eight real64 r (λ t. real64 .div (real64 .at xs t) (d .0)) ⌝ }
+{
+    let mut next = xs;
+    let mut t = 0;
+    while t < 8 {
+        next[t] = Real64(next[t]).div(d).0;
+        t += 1;
+    }
+    next
+}
+
+// Of eight numbers, those from number `first` to before number `end`, put into row q of a view: number t into column l + t.
+fn put_eight(b: &mut [f64], v: View, q: usize, l: usize, first: usize, end: usize, xs: [f64; 8])
+    requires { ⌜ Within v (real64 .count (now b)) q (l + 7) × (first ≤ end) × (end ≤ 8) ⌝ }
+    ensures { λ _. ⌜ now (b .exit) ≡ putEight real64 v q l first xs (end - first) (now (b .entry)) ⌝ }
+{
+    let n = end - first;
+    let mut i = 0;
+    while i < n {
+        let t = first + i;
+        put64(b, place(v, q, l + t), Real64(xs[t]));
+        i += 1;
+    }
+}
+
+// Eight right-hand sides, of unknown q in the lines from l on: times alpha, or as they are.
+fn begin_eight(times: bool, alpha: Real64, b: &[f64], v: View, q: usize, l: usize) -> [f64; 8]
+    requires { ⌜ Within v (real64 .count (now b)) q (l + 7) ⌝ }
+    ensures { λ r. ⌜ Eight real64 r (λ t. timesIf real64 times (alpha .0) (elem real64 (now (b .entry)) v q (l + t))) ⌝ }
+{
+    let xs = eight_at(b, v, q, l);
+    if times { times_eight(alpha, xs) } else { xs }
+}
+
+// Eight numbers, each less n terms of row q by its column, from `from` on: number t by column l + t.
+fn reduce_eight(
+    conjugated: bool,
+    a: &[f64],
+    va: View,
+    b: &[f64],
+    vb: View,
+    q: usize,
+    l: usize,
+    from: usize,
+    n: usize,
+    xs: [f64; 8],
+) -> [f64; 8]
+    requires { ⌜ Spans va (real64 .count (now a)) vb (real64 .count (now b)) q (l + 7) from n ⌝ }
+    ensures { λ r. ⌜ Eight real64 r (λ t. minusTerms real64 (real64 .at xs t) (λ p. real64 .mul (elemConj real64 conjugated (now (a .entry)) va q p) (elem real64 (now (b .entry)) vb p (l + t))) from n) ⌝ }
+{
+    let mut rest = xs;
+    let end = from + n;
+    let mut p = from;
+    while p < end {
+        let next = sub_eight64(at(conjugated, a, va, q, p), b, vb, p, l, rest);
+        rest = next;
+        p += 1;
+    }
+    rest
+}
+
+// Eight numbers divided by pivot q.
+fn by_pivot_eight(
     diag: Diag,
     conjugated: bool,
     a: &[f64],
     va: View,
     q: usize,
-    pivot: usize,
-    x: f64,
-) -> f64
-    requires { ⌜ Within va (real64 .count (now a)) q q × (pivot ≡ index va q q) ⌝ }
-    ensures { λ r. ⌜ r ≡ solve.byDiag real64 diag (elemConj real64 conjugated (now (a .entry)) va q q) x ⌝ }
+    xs: [f64; 8],
+) -> [f64; 8]
+    requires { ⌜ Within va (real64 .count (now a)) q q ⌝ }
+    ensures { λ r. ⌜ Eight real64 r (λ t. solve.byDiag real64 diag (elemConj real64 conjugated (now (a .entry)) va q q) (real64 .at xs t)) ⌝ }
 {
     match diag {
-        Diag::NonUnit => Real64(x).div(read(conjugated, a, va, q, q, pivot)).0,
-        Diag::Unit => x,
+        Diag::NonUnit => over_eight(xs, at(conjugated, a, va, q, q)),
+        Diag::Unit => xs,
     }
 }
 
-// Whether pivot q, which is at place `pivot`, is zero.
-fn zero_pivot(diag: Diag, a: &[f64], va: View, q: usize, pivot: usize) -> bool
-    requires { ⌜ Within va (real64 .count (now a)) q q × (pivot ≡ index va q q) ⌝ }
-    ensures { λ r. ⌜ r ≡ solve.zeroDiag real64 diag (elem real64 (now (a .entry)) va q q) ⌝ }
-{
-    match diag {
-        Diag::NonUnit => get64(a, pivot).is_zero(),
-        Diag::Unit => false,
-    }
-}
-
-// The unknown of line l that comes after k others, solved, with A on the left: its right-hand side is multiplied by alpha.
-fn left_one(sys: System, alpha: Real64, a: &[f64], b: &mut [f64], k: usize, l: usize)
-    requires { ⌜ ReadyAt sys (real64 .count (now a)) (real64 .count (now b)) k l ⌝ }
-    ensures { λ _. ⌜ now (b .exit) ≡ solve.solveUnknown real64 sys (real64 .mul (alpha .0)) (now (a .entry)) k l (now (b .entry)) ⌝ }
-{
-    let diag = sys.diag;
-    let m = rows(sys.b);
-    let q = in_order(sys.last, m, k);
-    let from = least_solved(sys.last, m, k);
-    let x = alpha.mul(elem64(b, sys.b, q, l)).0;
-    let rest = reduce(sys.conjugated, a, sys.a, b, sys.b, q, l, from, k, x);
-    let y = by_pivot(diag, sys.conjugated, a, sys.a, q, place(sys.a, q, q), rest);
-    put64(b, place(sys.b, q, l), Real64(y));
-}
-
-// The same with A on the right, where B is multiplied already.
-fn right_one(sys: System, a: &[f64], b: &mut [f64], k: usize, l: usize)
-    requires { ⌜ ReadyAt sys (real64 .count (now a)) (real64 .count (now b)) k l ⌝ }
-    ensures { λ _. ⌜ now (b .exit) ≡ solve.solveUnknown real64 sys (λ x. x) (now (a .entry)) k l (now (b .entry)) ⌝ }
-{
-    let diag = sys.diag;
-    let m = rows(sys.b);
-    let q = in_order(sys.last, m, k);
-    let from = least_solved(sys.last, m, k);
-    let x = elem64(b, sys.b, q, l).0;
-    let rest = reduce(sys.conjugated, a, sys.a, b, sys.b, q, l, from, k, x);
-    let y = by_pivot(diag, sys.conjugated, a, sys.a, q, place(sys.a, q, q), rest);
-    put64(b, place(sys.b, q, l), Real64(y));
-}
-
-// x less the term of row q of a and a vector at p, whose factors are at places c and u.
-fn less_at(
-    conjugated: bool,
+// The unknown that comes after k others, of the eight lines from l on solved in those from l + first to before l + end.
+fn solve_eight(
+    sys: System,
+    times: bool,
+    alpha: Real64,
     a: &[f64],
-    va: View,
-    b: &[f64],
-    vb: View,
-    q: usize,
-    p: usize,
-    c: usize,
-    u: usize,
-    x: f64,
-) -> f64
-    requires { ⌜ Within va (real64 .count (now a)) q p × Within vb (real64 .count (now b)) p 0 × (c ≡ index va q p) × (u ≡ index vb p 0) ⌝ }
-    ensures { λ r. ⌜ r ≡ real64 .sub x (real64 .mul (elemConj real64 conjugated (now (a .entry)) va q p) (elem real64 (now (b .entry)) vb p 0)) ⌝ }
-{
-    Real64(x)
-        .sub(read(conjugated, a, va, q, p, c).mul(get64(b, u)))
-        .0
-}
-
-// x less n such terms of a vector, from places `first` and `solved` on, with `stop` one step past the last unknown. The compiler does not know how
-// many there are and does not unroll the loop, which serves short sums.
-fn reduce_along(
-    conjugated: bool,
-    a: &[f64],
-    va: View,
-    b: &[f64],
-    vb: View,
-    q: usize,
-    from: usize,
-    n: usize,
-    x: f64,
+    b: &mut [f64],
+    k: usize,
+    l: usize,
     first: usize,
-    solved: usize,
-    stop: usize,
-) -> f64
-    requires { ⌜ Spans va (real64 .count (now a)) vb (real64 .count (now b)) q 0 from n × Begins va vb q from n first solved × Ends vb from n solved stop ⌝ }
-    ensures { λ r. ⌜ r ≡ minusTerms real64 x (λ p. real64 .mul (elemConj real64 conjugated (now (a .entry)) va q p) (elem real64 (now (b .entry)) vb p 0)) from n ⌝ }
-{
-    let along = col_step(va);
-    let down = row_step(vb);
-    let mut rest = x;
-    let mut c = first;
-    let mut u = solved;
-    let mut i = 0;
-    while u != stop {
-        rest = less_at(conjugated, a, va, b, vb, q, from + i, c, u, rest);
-        c = wrapping_add_usize(c, along);
-        u = wrapping_add_usize(u, down);
-        i += 1;
-    }
-    rest
-}
-
-// The unknown of a vector that comes after k others, at these places, solved.
-fn solve_next(sys: System, a: &[f64], b: &mut [f64], k: usize, at: Places)
-    requires { ⌜ ReadyAt sys (real64 .count (now a)) (real64 .count (now b)) k 0 × PlacesAt (sys .last) sys k at × Distinct (sys .b) ⌝ }
-    ensures { λ _. ⌜ now (b .exit) ≡ solve.solveUnknown real64 sys (λ x. x) (now (a .entry)) k 0 (now (b .entry)) ⌝ }
+    end: usize,
+)
+    requires { ⌜ ReadyAt sys (real64 .count (now a)) (real64 .count (now b)) k (l + 7) × (first ≤ end) × (end ≤ 8) ⌝ }
+    ensures { λ _. ⌜ now (b .exit) ≡ walk (end - first) (λ i. solve.solveUnknown real64 sys (timesIf real64 times (alpha .0)) (now (a .entry)) k (l + (first + i))) (now (b .entry)) ⌝ }
 {
     let diag = sys.diag;
     let m = rows(sys.b);
     let q = in_order(sys.last, m, k);
     let from = least_solved(sys.last, m, k);
-    let own = at.own;
-    let x = get64(b, own).0;
-    let rest = reduce_along(
-        sys.conjugated,
-        a,
-        sys.a,
-        b,
-        sys.b,
-        q,
-        from,
-        k,
-        x,
-        at.first,
-        at.solved,
-        at.stop,
-    );
-    let y = by_pivot(diag, sys.conjugated, a, sys.a, q, at.pivot, rest);
-    put64(b, own, Real64(y));
+    let xs = begin_eight(times, alpha, b, sys.b, q, l);
+    let rest = reduce_eight(sys.conjugated, a, sys.a, b, sys.b, q, l, from, k, xs);
+    let ys = by_pivot_eight(diag, sys.conjugated, a, sys.a, q, rest);
+    put_eight(b, sys.b, q, l, first, end, ys);
 }
 
-// Whether the pivot of the unknown that comes after k others, which is at place `pivot`, is zero.
-fn meets_zero(sys: System, a: &[f64], k: usize, pivot: usize) -> bool
-    requires { ⌜ Pivots sys (real64 .count (now a)) × (k < sys .b .rows) × (pivot ≡ index (sys .a) (inOrder (sys .last) (sys .b .rows) k) (inOrder (sys .last) (sys .b .rows) k)) ⌝ }
+// The unknown that comes after k others, in the first n lines, worked out in eight lines at a time.
+fn solve_blocks(
+    sys: System,
+    times: bool,
+    alpha: Real64,
+    a: &[f64],
+    b: &mut [f64],
+    n: usize,
+    k: usize,
+)
+    requires { ⌜ Ready sys (real64 .count (now a)) (real64 .count (now b)) × ((n ≤ sys .b .cols) × (k < sys .b .rows)) × (8 ≤ sys .b .cols) ⌝ }
+    ensures { λ _. ⌜ now (b .exit) ≡ solve.solveAcross real64 sys (timesIf real64 times (alpha .0)) (now (a .entry)) n k (now (b .entry)) ⌝ }
+{
+    let lines = cols(sys.b);
+    let mut l = 0;
+    while l < n {
+        let from = block_start(l, lines);
+        let end = block_end(from, n);
+        solve_eight(sys, times, alpha, a, b, k, from, l - from, end - from);
+        l = end;
+    }
+}
+
+// The first m unknowns, one after another, each in the first n lines, worked out in eight lines at a time.
+fn solve_wide(sys: System, times: bool, alpha: Real64, a: &[f64], b: &mut [f64], n: usize, m: usize)
+    requires { ⌜ Ready sys (real64 .count (now a)) (real64 .count (now b)) × ((n ≤ sys .b .cols) × (m ≤ sys .b .rows)) × (8 ≤ sys .b .cols) ⌝ }
+    ensures { λ _. ⌜ now (b .exit) ≡ solve.solveUnknowns real64 sys (timesIf real64 times (alpha .0)) (now (a .entry)) n m (now (b .entry)) ⌝ }
+{
+    let mut k = 0;
+    while k < m {
+        solve_blocks(sys, times, alpha, a, b, n, k);
+        k += 1;
+    }
+}
+
+// Whether the pivot of the unknown that comes after k others is zero.
+fn meets_zero(sys: System, a: &[f64], k: usize) -> bool
+    requires { ⌜ Pivots sys (real64 .count (now a)) × (k < sys .b .rows) ⌝ }
     ensures { λ r. ⌜ r ≡ solve.zeroAfter real64 sys (now (a .entry)) k ⌝ }
 {
     let diag = sys.diag;
     let q = in_order(sys.last, rows(sys.b), k);
-    zero_pivot(diag, a, sys.a, q, pivot)
-}
-
-// The unknowns of a vector, up to the first zero pivot, where the last is solved first.
-fn solve_backward(sys: System, a: &[f64], b: &mut [f64]) -> Answer
-    requires { ⌜ Ready sys (real64 .count (now a)) (real64 .count (now b)) × (sys .b .cols ≡ 1) × Distinct (sys .b) ⌝ }
-    ensures { λ r. ⌜ solve.Solved real64 sys (λ x. x) (now (a .entry)) (now (b .entry)) r (now (b .exit)) ⌝ }
-{
-    let n = rows(sys.b);
-    if n == 0 {
-        return Answer::Done;
-    }
-    let by = steps_of(sys);
-    let mut at = places_of(sys);
-    let mut k = 0;
-    while k < n {
-        if meets_zero(sys, a, k, at.pivot) {
-            return Answer::Singular;
-        }
-        solve_next(sys, a, b, k, at);
-        at = onward(at, by);
-        k += 1;
-    }
-    Answer::Done
-}
-
-// The same where the first is solved first: in a loop of its own the compiler knows before it which places move.
-fn solve_forward(sys: System, a: &[f64], b: &mut [f64]) -> Answer
-    requires { ⌜ Ready sys (real64 .count (now a)) (real64 .count (now b)) × (sys .b .cols ≡ 1) × Distinct (sys .b) ⌝ }
-    ensures { λ r. ⌜ solve.Solved real64 sys (λ x. x) (now (a .entry)) (now (b .entry)) r (now (b .exit)) ⌝ }
-{
-    let m = rows(sys.b);
-    if m == 0 {
-        return Answer::Done;
-    }
-    let by = steps_of(sys);
-    let mut at = places_of(sys);
-    let mut k = 0;
-    while k < m {
-        if meets_zero(sys, a, k, at.pivot) {
-            return Answer::Singular;
-        }
-        solve_next(sys, a, b, k, at);
-        at = onward(at, by);
-        k += 1;
-    }
-    Answer::Done
+    zero_pivot(diag, a, sys.a, q)
 }
 
 // The unknowns of a vector, up to the first zero pivot.
 fn solve_vector(sys: System, a: &[f64], b: &mut [f64]) -> Answer
-    requires { ⌜ Ready sys (real64 .count (now a)) (real64 .count (now b)) × (sys .b .cols ≡ 1) × Distinct (sys .b) ⌝ }
+    requires { ⌜ Ready sys (real64 .count (now a)) (real64 .count (now b)) × (sys .b .cols ≡ 1) ⌝ }
     ensures { λ r. ⌜ solve.Solved real64 sys (λ x. x) (now (a .entry)) (now (b .entry)) r (now (b .exit)) ⌝ }
 {
-    if sys.last {
-        solve_backward(sys, a, b)
-    } else {
-        solve_forward(sys, a, b)
+    let n = rows(sys.b);
+    let mut k = 0;
+    while k < n {
+        if meets_zero(sys, a, k) {
+            return Answer::Singular;
+        }
+        solve_one(sys, false, Real64::ONE, a, b, k, 0);
+        k += 1;
     }
+    Answer::Done
 }
 
 // How many unknowns come before the first zero pivot.
@@ -375,11 +364,10 @@ fn first_zero(sys: System, a: &[f64]) -> usize
     requires { ⌜ Pivots sys (real64 .count (now a)) ⌝ }
     ensures { λ r. ⌜ r ≡ solve.firstZero real64 sys (now (a .entry)) ⌝ }
 {
-    let m = rows(sys.b);
+    let all = rows(sys.b);
     let mut k = 0;
-    while k < m {
-        let q = in_order(sys.last, m, k);
-        if meets_zero(sys, a, k, place(sys.a, q, q)) {
+    while k < all {
+        if meets_zero(sys, a, k) {
             return k;
         }
         k += 1;
@@ -387,165 +375,82 @@ fn first_zero(sys: System, a: &[f64]) -> usize
     k
 }
 
-// Whether some pivot is zero.
-fn any_zero(sys: System, a: &[f64]) -> bool
-    requires { ⌜ Pivots sys (real64 .count (now a)) ⌝ }
-    ensures { λ r. ⌜ r ≡ solve.anyZero real64 sys (now (a .entry)) ⌝ }
+// The unknown that comes after k others, in the first n lines.
+fn solve_across(
+    sys: System,
+    times: bool,
+    alpha: Real64,
+    a: &[f64],
+    b: &mut [f64],
+    n: usize,
+    k: usize,
+)
+    requires { ⌜ Ready sys (real64 .count (now a)) (real64 .count (now b)) × ((n ≤ sys .b .cols) × (k < sys .b .rows)) ⌝ }
+    ensures { λ _. ⌜ now (b .exit) ≡ solve.solveAcross real64 sys (timesIf real64 times (alpha .0)) (now (a .entry)) n k (now (b .entry)) ⌝ }
 {
-    let diag = sys.diag;
-    let m = rows(sys.b);
-    let mut q = 0;
-    while q < m {
-        if zero_pivot(diag, a, sys.a, q, place(sys.a, q, q)) {
-            return true;
-        }
-        q += 1;
+    let mut l = 0;
+    while l < n {
+        solve_one(sys, times, alpha, a, b, k, l);
+        l += 1;
     }
-    false
 }
 
-// How many unknowns come before the first zero pivot, all where there is none.
-fn reached(sys: System, a: &[f64]) -> usize
-    requires { ⌜ Pivots sys (real64 .count (now a)) ⌝ }
-    ensures { λ r. ⌜ r ≡ solve.firstZero real64 sys (now (a .entry)) ⌝ }
+// The first m unknowns, one after another, each in the first n lines.
+fn solve_unknowns(
+    sys: System,
+    times: bool,
+    alpha: Real64,
+    a: &[f64],
+    b: &mut [f64],
+    n: usize,
+    m: usize,
+)
+    requires { ⌜ Ready sys (real64 .count (now a)) (real64 .count (now b)) × ((n ≤ sys .b .cols) × (m ≤ sys .b .rows)) ⌝ }
+    ensures { λ _. ⌜ now (b .exit) ≡ solve.solveUnknowns real64 sys (timesIf real64 times (alpha .0)) (now (a .entry)) n m (now (b .entry)) ⌝ }
 {
-    if any_zero(sys, a) {
-        first_zero(sys, a)
+    let mut k = 0;
+    while k < m {
+        solve_across(sys, times, alpha, a, b, n, k);
+        k += 1;
+    }
+}
+
+// The unknowns before the first zero pivot, in every line; where a left solve stops there, in the first line alone.
+fn solve_few(sys: System, times: bool, alpha: Real64, a: &[f64], b: &mut [f64]) -> Answer
+    requires { ⌜ Ready sys (real64 .count (now a)) (real64 .count (now b)) ⌝ }
+    ensures { λ r. ⌜ solve.Solved real64 sys (timesIf real64 times (alpha .0)) (now (a .entry)) (now (b .entry)) r (now (b .exit)) ⌝ }
+{
+    let side = sys.side;
+    let m = first_zero(sys, a);
+    let stopped = stops(sys, m);
+    let n = lines_solved(side, stopped, cols(sys.b));
+    solve_unknowns(sys, times, alpha, a, b, n, m);
+    solved(stopped)
+}
+
+// The same, worked out in eight lines at a time.
+fn solve_many(sys: System, times: bool, alpha: Real64, a: &[f64], b: &mut [f64]) -> Answer
+    requires { ⌜ Ready sys (real64 .count (now a)) (real64 .count (now b)) × (8 ≤ sys .b .cols) ⌝ }
+    ensures { λ r. ⌜ solve.Solved real64 sys (timesIf real64 times (alpha .0)) (now (a .entry)) (now (b .entry)) r (now (b .exit)) ⌝ }
+{
+    let side = sys.side;
+    let m = first_zero(sys, a);
+    let stopped = stops(sys, m);
+    let n = lines_solved(side, stopped, cols(sys.b));
+    solve_wide(sys, times, alpha, a, b, n, m);
+    solved(stopped)
+}
+
+// The same, chosen by how many lines there are.
+fn solve_lines(sys: System, times: bool, alpha: Real64, a: &[f64], b: &mut [f64]) -> Answer
+    requires { ⌜ Ready sys (real64 .count (now a)) (real64 .count (now b)) ⌝ }
+    ensures { λ r. ⌜ solve.Solved real64 sys (timesIf real64 times (alpha .0)) (now (a .entry)) (now (b .entry)) r (now (b .exit)) ⌝ }
+{
+    if 8 <= cols(sys.b) {
+        solve_many(sys, times, alpha, a, b)
     } else {
-        rows(sys.b)
+        solve_few(sys, times, alpha, a, b)
     }
-}
-
-// The unknown of line l that is solved first, with A on the left: it has no sum.
-fn left_first(sys: System, alpha: Real64, a: &[f64], b: &mut [f64], l: usize)
-    requires { ⌜ ReadyAt sys (real64 .count (now a)) (real64 .count (now b)) 0 l ⌝ }
-    ensures { λ _. ⌜ now (b .exit) ≡ solve.solveUnknown real64 sys (real64 .mul (alpha .0)) (now (a .entry)) 0 l (now (b .entry)) ⌝ }
-{
-    let diag = sys.diag;
-    let m = rows(sys.b);
-    let q = in_order(sys.last, m, 0);
-    let x = alpha.mul(elem64(b, sys.b, q, l)).0;
-    let y = by_pivot(diag, sys.conjugated, a, sys.a, q, place(sys.a, q, q), x);
-    put64(b, place(sys.b, q, l), Real64(y));
-}
-
-// That unknown in the first n lines.
-fn left_begin(sys: System, alpha: Real64, a: &[f64], b: &mut [f64], n: usize)
-    requires { ⌜ Ready sys (real64 .count (now a)) (real64 .count (now b)) × ((n ≤ sys .b .cols) × (0 < sys .b .rows)) ⌝ }
-    ensures { λ _. ⌜ now (b .exit) ≡ solve.solveAcross real64 sys (real64 .mul (alpha .0)) (now (a .entry)) n 0 (now (b .entry)) ⌝ }
-{
-    let mut l = 0;
-    while l < n {
-        left_first(sys, alpha, a, b, l);
-        l += 1;
-    }
-}
-
-// The unknown that comes after k others, in the first n lines, with A on the left.
-fn left_across(sys: System, alpha: Real64, a: &[f64], b: &mut [f64], n: usize, k: usize)
-    requires { ⌜ Ready sys (real64 .count (now a)) (real64 .count (now b)) × ((n ≤ sys .b .cols) × (k < sys .b .rows)) ⌝ }
-    ensures { λ _. ⌜ now (b .exit) ≡ solve.solveAcross real64 sys (real64 .mul (alpha .0)) (now (a .entry)) n k (now (b .entry)) ⌝ }
-{
-    let mut l = 0;
-    while l < n {
-        left_one(sys, alpha, a, b, k, l);
-        l += 1;
-    }
-}
-
-// The first m unknowns, one after another, each in the first n lines, with A on the left.
-fn left_unknowns(sys: System, alpha: Real64, a: &[f64], b: &mut [f64], n: usize, m: usize)
-    requires { ⌜ Ready sys (real64 .count (now a)) (real64 .count (now b)) × ((n ≤ sys .b .cols) × (m ≤ sys .b .rows)) ⌝ }
-    ensures { λ _. ⌜ now (b .exit) ≡ solve.solveUnknowns real64 sys (real64 .mul (alpha .0)) (now (a .entry)) n m (now (b .entry)) ⌝ }
-{
-    if m == 0 {
-        return;
-    }
-    left_begin(sys, alpha, a, b, n);
-    let mut k = 1;
-    while k < m {
-        left_across(sys, alpha, a, b, n, k);
-        k += 1;
-    }
-}
-
-// The unknowns before the first zero pivot, in every line; in the first line alone where there is such a pivot.
-fn left_lines(sys: System, alpha: Real64, a: &[f64], b: &mut [f64]) -> Answer
-    requires { ⌜ Ready sys (real64 .count (now a)) (real64 .count (now b)) ⌝ }
-    ensures { λ r. ⌜ solve.Solved real64 sys (real64 .mul (alpha .0)) (now (a .entry)) (now (b .entry)) r (now (b .exit)) ⌝ }
-{
-    let side = sys.side;
-    let m = reached(sys, a);
-    let stopped = stops(sys, m);
-    let n = lines_solved(side, stopped, cols(sys.b));
-    left_unknowns(sys, alpha, a, b, n, m);
-    solved(stopped)
-}
-
-// The unknown of line l that is solved first, with A on the right: it has no sum.
-fn right_first(sys: System, a: &[f64], b: &mut [f64], l: usize)
-    requires { ⌜ ReadyAt sys (real64 .count (now a)) (real64 .count (now b)) 0 l ⌝ }
-    ensures { λ _. ⌜ now (b .exit) ≡ solve.solveUnknown real64 sys (λ x. x) (now (a .entry)) 0 l (now (b .entry)) ⌝ }
-{
-    let diag = sys.diag;
-    let m = rows(sys.b);
-    let q = in_order(sys.last, m, 0);
-    let x = elem64(b, sys.b, q, l).0;
-    let y = by_pivot(diag, sys.conjugated, a, sys.a, q, place(sys.a, q, q), x);
-    put64(b, place(sys.b, q, l), Real64(y));
-}
-
-// That unknown in the first n lines.
-fn right_begin(sys: System, a: &[f64], b: &mut [f64], n: usize)
-    requires { ⌜ Ready sys (real64 .count (now a)) (real64 .count (now b)) × ((n ≤ sys .b .cols) × (0 < sys .b .rows)) ⌝ }
-    ensures { λ _. ⌜ now (b .exit) ≡ solve.solveAcross real64 sys (λ x. x) (now (a .entry)) n 0 (now (b .entry)) ⌝ }
-{
-    let mut l = 0;
-    while l < n {
-        right_first(sys, a, b, l);
-        l += 1;
-    }
-}
-
-// The unknown that comes after k others, in the first n lines, with A on the right.
-fn right_across(sys: System, a: &[f64], b: &mut [f64], n: usize, k: usize)
-    requires { ⌜ Ready sys (real64 .count (now a)) (real64 .count (now b)) × ((n ≤ sys .b .cols) × (k < sys .b .rows)) ⌝ }
-    ensures { λ _. ⌜ now (b .exit) ≡ solve.solveAcross real64 sys (λ x. x) (now (a .entry)) n k (now (b .entry)) ⌝ }
-{
-    let mut l = 0;
-    while l < n {
-        right_one(sys, a, b, k, l);
-        l += 1;
-    }
-}
-
-// The first m unknowns, one after another, each in the first n lines, with A on the right.
-fn right_unknowns(sys: System, a: &[f64], b: &mut [f64], n: usize, m: usize)
-    requires { ⌜ Ready sys (real64 .count (now a)) (real64 .count (now b)) × ((n ≤ sys .b .cols) × (m ≤ sys .b .rows)) ⌝ }
-    ensures { λ _. ⌜ now (b .exit) ≡ solve.solveUnknowns real64 sys (λ x. x) (now (a .entry)) n m (now (b .entry)) ⌝ }
-{
-    if m == 0 {
-        return;
-    }
-    right_begin(sys, a, b, n);
-    let mut k = 1;
-    while k < m {
-        right_across(sys, a, b, n, k);
-        k += 1;
-    }
-}
-
-// The unknowns before the first zero pivot, in every line, with A on the right.
-fn right_lines(sys: System, a: &[f64], b: &mut [f64]) -> Answer
-    requires { ⌜ Ready sys (real64 .count (now a)) (real64 .count (now b)) ⌝ }
-    ensures { λ r. ⌜ solve.Solved real64 sys (λ x. x) (now (a .entry)) (now (b .entry)) r (now (b .exit)) ⌝ }
-{
-    let side = sys.side;
-    let m = reached(sys, a);
-    let stopped = stops(sys, m);
-    let n = lines_solved(side, stopped, cols(sys.b));
-    right_unknowns(sys, a, b, n, m);
-    solved(stopped)
 }
 
 // Element (i, j) of B times alpha.
@@ -583,41 +488,15 @@ fn scale(alpha: Real64, b: &mut [f64], vb: View)
     }
 }
 
-// The solve with A on the left, which multiplies by alpha where it solves.
-fn solve_left(
-    uplo: UpLo,
-    t: Trans,
-    diag: Diag,
-    alpha: Real64,
-    a: &[f64],
-    va: View,
-    b: &mut [f64],
-    vb: View,
-) -> Answer
-    requires { ⌜ Sided Side.Left va (real64 .count (now a)) vb (real64 .count (now b)) ⌝ }
-    ensures { λ r. ⌜ Gives real64 (sidedSolve real64 Side.Left uplo t diag (alpha .0) (elem real64 (now (a .entry)) va) vb (now (b .entry))) r (now (b .exit)) ⌝ }
+// All of B times alpha on the right side, which multiplies before it solves; the left side multiplies where it solves.
+fn scale_right(side: Side, alpha: Real64, b: &mut [f64], vb: View)
+    requires { ⌜ Accepted vb (real64 .count (now b)) ⌝ }
+    ensures { λ _. ⌜ now (b .exit) ≡ triangles.scaledRight real64 side (alpha .0) vb (now (b .entry)) ⌝ }
 {
-    let sys = system_of(Side::Left, uplo, t, diag, va, vb);
-    left_lines(sys, alpha, a, b)
-}
-
-// The solve with A on the right, which multiplies all of B by alpha first.
-fn solve_right(
-    uplo: UpLo,
-    t: Trans,
-    diag: Diag,
-    alpha: Real64,
-    a: &[f64],
-    va: View,
-    b: &mut [f64],
-    vb: View,
-) -> Answer
-    requires { ⌜ Sided Side.Right va (real64 .count (now a)) vb (real64 .count (now b)) ⌝ }
-    ensures { λ r. ⌜ Gives real64 (sidedSolve real64 Side.Right uplo t diag (alpha .0) (elem real64 (now (a .entry)) va) vb (now (b .entry))) r (now (b .exit)) ⌝ }
-{
-    scale(alpha, b, vb);
-    let sys = system_of(Side::Right, uplo, t, diag, va, vb);
-    right_lines(sys, a, b)
+    match side {
+        Side::Left => {}
+        Side::Right => scale(alpha, b, vb),
+    }
 }
 
 // The solve of a side, with alpha.
@@ -635,10 +514,9 @@ fn sided(
     requires { ⌜ Sided side va (real64 .count (now a)) vb (real64 .count (now b)) ⌝ }
     ensures { λ r. ⌜ Gives real64 (sidedSolve real64 side uplo t diag (alpha .0) (elem real64 (now (a .entry)) va) vb (now (b .entry))) r (now (b .exit)) ⌝ }
 {
-    match side {
-        Side::Left => solve_left(uplo, t, diag, alpha, a, va, b, vb),
-        Side::Right => solve_right(uplo, t, diag, alpha, a, va, b, vb),
-    }
+    scale_right(side, alpha, b, vb);
+    let sys = system_of(side, uplo, t, diag, va, vb);
+    solve_lines(sys, is_left(side), alpha, a, b)
 }
 
 // What the diagonal weighs.
@@ -695,7 +573,7 @@ fn multiply_line(sys: System, alpha: Real64, a: &[f64], b: &mut [f64], l: usize)
 }
 
 // All of B, line after line.
-fn multiply(sys: System, alpha: Real64, a: &[f64], b: &mut [f64])
+fn multiply_lines(sys: System, alpha: Real64, a: &[f64], b: &mut [f64])
     requires { ⌜ Ready sys (real64 .count (now a)) (real64 .count (now b)) ⌝ }
     ensures { λ _. ⌜ now (b .exit) ≡ multiply.multiplyAll real64 sys (now (a .entry)) (real64 .mul (alpha .0)) (now (b .entry)) ⌝ }
 {
@@ -707,22 +585,105 @@ fn multiply(sys: System, alpha: Real64, a: &[f64], b: &mut [f64])
     }
 }
 
-// Element q of the product with a vector.
-fn vector_sum(sys: System, a: &[f64], b: &[f64], q: usize) -> f64
-    requires { ⌜ ReadyAt sys (real64 .count (now a)) (real64 .count (now b)) q 0 ⌝ }
-    ensures { λ r. ⌜ r ≡ multiply.lineSum real64 sys (now (a .entry)) (now (b .entry)) q 0 ⌝ }
+// Eight numbers, each and n terms more of row q by its column, from `from` on: number t by column l + t.
+fn add_run_eight(
+    conjugated: bool,
+    a: &[f64],
+    va: View,
+    b: &[f64],
+    vb: View,
+    q: usize,
+    l: usize,
+    from: usize,
+    n: usize,
+    xs: [f64; 8],
+) -> [f64; 8]
+    requires { ⌜ Spans va (real64 .count (now a)) vb (real64 .count (now b)) q (l + 7) from n ⌝ }
+    ensures { λ r. ⌜ Eight real64 r (λ t. plusTerms real64 (real64 .at xs t) (λ p. real64 .mul (elemConj real64 conjugated (now (a .entry)) va q p) (elem real64 (now (b .entry)) vb p (l + t))) from n) ⌝ }
+{
+    let mut sums = xs;
+    let end = from + n;
+    let mut p = from;
+    while p < end {
+        let next = add_eight64(at(conjugated, a, va, q, p), b, vb, p, l, sums);
+        sums = next;
+        p += 1;
+    }
+    sums
+}
+
+// Element q of the product in the eight lines from l on.
+fn line_sums(sys: System, a: &[f64], b: &[f64], q: usize, l: usize) -> [f64; 8]
+    requires { ⌜ ReadyAt sys (real64 .count (now a)) (real64 .count (now b)) q (l + 7) ⌝ }
+    ensures { λ r. ⌜ Eight real64 r (λ t. multiply.lineSum real64 sys (now (a .entry)) (now (b .entry)) q (l + t)) ⌝ }
 {
     let diag = sys.diag;
     let c = own_weight(diag, sys.conjugated, a, sys.a, q);
-    let own = c.mul(elem64(b, sys.b, q, 0));
+    let zeros = [0.0; 8];
     if sys.last {
         let n = rows(sys.b) - 1 - q;
-        let x = Real64::ZERO.add(own).0;
-        add_run(sys.conjugated, a, sys.a, b, sys.b, q, 0, q + 1, n, x)
+        let xs = add_eight64(c, b, sys.b, q, l, zeros);
+        add_run_eight(sys.conjugated, a, sys.a, b, sys.b, q, l, q + 1, n, xs)
     } else {
-        let x = Real64::ZERO.0;
-        let sum = add_run(sys.conjugated, a, sys.a, b, sys.b, q, 0, 0, q, x);
-        Real64(sum).add(own).0
+        let sums = add_run_eight(sys.conjugated, a, sys.a, b, sys.b, q, l, 0, q, zeros);
+        add_eight64(c, b, sys.b, q, l, sums)
+    }
+}
+
+// The element that comes after k others, multiplied in the last of eight lines: of those from l on, the ones from l + first on.
+fn multiply_eight(
+    sys: System,
+    alpha: Real64,
+    a: &[f64],
+    b: &mut [f64],
+    k: usize,
+    l: usize,
+    first: usize,
+)
+    requires { ⌜ ReadyAt sys (real64 .count (now a)) (real64 .count (now b)) k (l + 7) × (first ≤ 8) ⌝ }
+    ensures { λ _. ⌜ now (b .exit) ≡ walk (8 - first) (λ i. multiply.multiplyOne real64 sys (now (a .entry)) (real64 .mul (alpha .0)) k (l + (first + i))) (now (b .entry)) ⌝ }
+{
+    let q = in_order(!sys.last, rows(sys.b), k);
+    let xs = times_eight(alpha, line_sums(sys, a, b, q, l));
+    put_eight(b, sys.b, q, l, first, 8, xs);
+}
+
+// The element that comes after k others, in every line, eight of them at a time.
+fn multiply_blocks(sys: System, alpha: Real64, a: &[f64], b: &mut [f64], k: usize)
+    requires { ⌜ Ready sys (real64 .count (now a)) (real64 .count (now b)) × (k < sys .b .rows) × (8 ≤ sys .b .cols) ⌝ }
+    ensures { λ _. ⌜ now (b .exit) ≡ multiply.multiplyAcross real64 sys (now (a .entry)) (real64 .mul (alpha .0)) k (now (b .entry)) ⌝ }
+{
+    let n = cols(sys.b);
+    let mut l = 0;
+    while l < n {
+        let from = block_start(l, n);
+        multiply_eight(sys, alpha, a, b, k, from, l - from);
+        l = from + 8;
+    }
+}
+
+// All of B, element after element, each in eight lines at a time.
+fn multiply_wide(sys: System, alpha: Real64, a: &[f64], b: &mut [f64])
+    requires { ⌜ Ready sys (real64 .count (now a)) (real64 .count (now b)) × (8 ≤ sys .b .cols) ⌝ }
+    ensures { λ _. ⌜ now (b .exit) ≡ multiply.multiplyAll real64 sys (now (a .entry)) (real64 .mul (alpha .0)) (now (b .entry)) ⌝ }
+{
+    let m = rows(sys.b);
+    let mut k = 0;
+    while k < m {
+        multiply_blocks(sys, alpha, a, b, k);
+        k += 1;
+    }
+}
+
+// All of B, eight lines at a time where there are eight.
+fn multiply(sys: System, alpha: Real64, a: &[f64], b: &mut [f64])
+    requires { ⌜ Ready sys (real64 .count (now a)) (real64 .count (now b)) ⌝ }
+    ensures { λ _. ⌜ now (b .exit) ≡ multiply.multiplyAll real64 sys (now (a .entry)) (real64 .mul (alpha .0)) (now (b .entry)) ⌝ }
+{
+    if 8 <= cols(sys.b) {
+        multiply_wide(sys, alpha, a, b);
+    } else {
+        multiply_lines(sys, alpha, a, b);
     }
 }
 
@@ -732,14 +693,14 @@ fn multiply_next(sys: System, a: &[f64], b: &mut [f64], k: usize)
     ensures { λ _. ⌜ now (b .exit) ≡ multiply.multiplyOne real64 sys (now (a .entry)) (λ x. x) k 0 (now (b .entry)) ⌝ }
 {
     let q = in_order(!sys.last, rows(sys.b), k);
-    let x = vector_sum(sys, a, b, q);
+    let x = line_sum(sys, a, b, q, 0);
     put64(b, place(sys.b, q, 0), Real64(x));
 }
 
 // All of a vector, in that order.
 fn multiply_vector(sys: System, a: &[f64], b: &mut [f64])
     requires { ⌜ Ready sys (real64 .count (now a)) (real64 .count (now b)) × (sys .b .cols ≡ 1) ⌝ }
-    ensures { λ _. ⌜ now (b .exit) ≡ walk (sys .b .rows) (λ k. multiply.multiplyOne real64 sys (now (a .entry)) (λ x. x) k 0) (now (b .entry)) ⌝ }
+    ensures { λ _. ⌜ now (b .exit) ≡ multiply.multiplyAll real64 sys (now (a .entry)) (λ x. x) (now (b .entry)) ⌝ }
 {
     let m = rows(sys.b);
     let mut k = 0;

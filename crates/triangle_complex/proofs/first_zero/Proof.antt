@@ -1,12 +1,7 @@
-use Prim.Native.Nat.{ℕ, _≤_, _-_}
-use mathlib.Core.Path.{ap, _∙_}
+use Prim.Native.Nat.{_≤_, _-_}
 use native.Mathlib.Omega.{arith}
 use Rattle.number.specs.Kind.{complex}
-use Rattle.view.specs.Place.{index}
-use Rattle.slab.proofs.Shown.{shown}
 use Rattle.order.specs.Solve.{zeroAfter}
-use Rattle.order.proofs.Systems.{pivot-shown}
-use Rattle.order.proofs.PlaceLaws.{turn-is}
 use Rattle.order.proofs.Solves.{Clear, clear-start, clear-next, first-found, first-nowhere}
 use Rattle.triangle_complex.proofs.first_zero.Statement.{statement}
 use Rattle.triangle_complex.proofs.first_zero.Tie as tie
@@ -23,19 +18,11 @@ rows-requires c κs = tt
 loop-holds : tie.Need-loop-holds Inv-loop μ-loop
 loop-holds c = (omega arith, clear-start _)
 
-in-order-requires : tie.Need-in-order-requires Inv-loop μ-loop
-in-order-requires c κs = omega arith
-
-place-requires : tie.Need-place-requires Inv-loop μ-loop
-place-requires c κs = shown _ _ _ _ (pivot-shown _ _ 0 _ (c .before .before .before .before .before .pre) (omega (arith, c .in-order .ensures .1, c .before .before .before .rows .ensures))) (omega (arith, c .before .before .before .before .before .good .1 .0))
-
 meets-zero-requires : tie.Need-meets-zero-requires Inv-loop μ-loop
-meets-zero-requires c κs =
-    let y = c .before .before .before .before .before .before .args .sys in
-    (c .before .before .before .before .before .before .pre, omega (arith, c .before .before .before .before .rows .ensures), c .place .ensures ∙ ap (λ (q : ℕ). index (y .a) q q) (turn-is y _ _ _ (c .before .before .before .before .rows .ensures) (c .before .in-order .ensures .0)))
+meets-zero-requires c κs = (c .before .before .before .before .pre, omega (arith, c .before .before .rows .ensures))
 
 returns : tie.Need-returns Inv-loop μ-loop
-returns c = first-found _ _ _ _ _ (c .before .before .before .before .before .before .rows .ensures) (omega arith) (c .before .before .before .before .before .loop .inv .1) (c .before .meets-zero .ensures) (c .if1 .taken)
+returns c = first-found _ _ _ _ _ (c .before .before .before .before .rows .ensures) (omega arith) (c .before .before .before .loop .inv .1) (c .before .meets-zero .ensures) (c .if1 .taken)
 
 add-k : tie.Need-add-k Inv-loop μ-loop
 add-k c = omega arith
@@ -44,7 +31,7 @@ loop-less : tie.Need-loop-less Inv-loop μ-loop
 loop-less c = omega arith
 
 loop-again : tie.Need-loop-again Inv-loop μ-loop
-loop-again c = (omega arith, clear-next _ _ _ (c .before .before .before .before .before .loop .inv .1) (c .before .meets-zero .ensures) (c .if1 .left))
+loop-again c = (omega arith, clear-next _ _ _ (c .before .before .before .loop .inv .1) (c .before .meets-zero .ensures) (c .if1 .left))
 
 returns-2 : tie.Need-returns-2 Inv-loop μ-loop
 returns-2 c = first-nowhere _ _ _ _ (c .before .before .rows .ensures) (c .before .loop .inv .0) (omega arith) (c .before .loop .inv .1)
@@ -57,8 +44,6 @@ first-zero-spec =
     μ-loop
     rows-requires
     loop-holds
-    in-order-requires
-    place-requires
     meets-zero-requires
     returns
     add-k

@@ -4,6 +4,7 @@ use native.Mathlib.Omega.{arith}
 use lib.ListN.{length}
 use Rattle.number.specs.Kind.{complex}
 use Rattle.order.specs.Walk.{walk}
+use Rattle.order.specs.Triangles.{timesIf}
 use Rattle.order.specs.Multiply.{multiplyLine}
 use Rattle.order.proofs.Systems.{ready-kept}
 use Rattle.order.proofs.WalkLaws.{walk-start, walk-next, walk-end}
@@ -11,10 +12,10 @@ use Rattle.triangle_complex.proofs.multiply.Statement.{statement}
 use Rattle.triangle_complex.proofs.multiply.Tie as tie
 
 abbrev Inv-loop : tie.InvT-loop
-Inv-loop sys alpha a b₀ n l₀ b l = (l ≤ n) × (length b ≡ length b₀) × (b ≡ walk l (λ i. multiplyLine complex sys a (complex .mul alpha) i (sys .b .rows)) b₀)
+Inv-loop sys times alpha a b₀ n l₀ b l = (l ≤ n) × (length b ≡ length b₀) × (b ≡ walk l (λ i. multiplyLine complex sys a (timesIf complex times alpha) i (sys .b .rows)) b₀)
 
 abbrev μ-loop : tie.MeasureT-loop
-μ-loop sys alpha a b₀ n l₀ b l = n - l
+μ-loop sys times alpha a b₀ n l₀ b l = n - l
 
 cols-requires : tie.Need-cols-requires Inv-loop μ-loop
 cols-requires c κs = tt
@@ -32,7 +33,7 @@ loop-less : tie.Need-loop-less Inv-loop μ-loop
 loop-less c = omega arith
 
 loop-again : tie.Need-loop-again Inv-loop μ-loop
-loop-again c = (omega arith, c .before .before .multiply-line .kept .1 .1 .1 .0 ∙ c .before .before .before .before .before .loop .inv .1, walk-next _ _ _ _ _ (c .before .before .before .before .before .loop .inv .2) (c .before .before .multiply-line .ensures))
+loop-again c = (omega arith, c .before .before .multiply-line .kept .1 .1 .1 .1 .0 ∙ c .before .before .before .before .before .loop .inv .1, walk-next _ _ _ _ _ (c .before .before .before .before .before .loop .inv .2) (c .before .before .multiply-line .ensures))
 
 same-length : tie.Need-same-length Inv-loop μ-loop
 same-length c = c .before .loop .inv .1

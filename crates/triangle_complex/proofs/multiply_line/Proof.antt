@@ -3,6 +3,7 @@ use mathlib.Core.Path.{_≡_, refl, ap, _∙_}
 use native.Mathlib.Omega.{arith}
 use lib.ListN.{length}
 use Rattle.number.specs.Kind.{complex}
+use Rattle.order.specs.Triangles.{timesIf}
 use Rattle.order.specs.Multiply.{multiplyLine}
 use Rattle.order.proofs.Systems.{ready-for}
 use Rattle.order.proofs.WalkLaws.{walk-start, walk-next, walk-end}
@@ -10,10 +11,10 @@ use Rattle.triangle_complex.proofs.multiply_line.Statement.{statement}
 use Rattle.triangle_complex.proofs.multiply_line.Tie as tie
 
 abbrev Inv-loop : tie.InvT-loop
-Inv-loop sys alpha a b₀ l m k₀ b k = (k ≤ m) × (length b ≡ length b₀) × (b ≡ multiplyLine complex sys a (complex .mul alpha) l k b₀)
+Inv-loop sys times alpha a b₀ l m k₀ b k = (k ≤ m) × (length b ≡ length b₀) × (b ≡ multiplyLine complex sys a (timesIf complex times alpha) l k b₀)
 
 abbrev μ-loop : tie.MeasureT-loop
-μ-loop sys alpha a b₀ l m k₀ b k = m - k
+μ-loop sys times alpha a b₀ l m k₀ b k = m - k
 
 rows-requires : tie.Need-rows-requires Inv-loop μ-loop
 rows-requires c κs = tt
@@ -33,7 +34,7 @@ loop-less : tie.Need-loop-less Inv-loop μ-loop
 loop-less c = omega arith
 
 loop-again : tie.Need-loop-again Inv-loop μ-loop
-loop-again c = (omega arith, c .before .before .multiply-one .kept .1 .1 .1 .0 ∙ c .before .before .before .before .before .loop .inv .1, walk-next _ _ _ _ _ (c .before .before .before .before .before .loop .inv .2) (c .before .before .multiply-one .ensures))
+loop-again c = (omega arith, c .before .before .multiply-one .kept .1 .1 .1 .1 .0 ∙ c .before .before .before .before .before .loop .inv .1, walk-next _ _ _ _ _ (c .before .before .before .before .before .loop .inv .2) (c .before .before .multiply-one .ensures))
 
 same-length : tie.Need-same-length Inv-loop μ-loop
 same-length c = c .before .loop .inv .1

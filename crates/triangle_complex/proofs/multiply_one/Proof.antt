@@ -17,8 +17,8 @@ in-order-requires c κs = search needs
 line-sum-requires : tie.Need-line-sum-requires
 line-sum-requires c κs = search needs
 
-mul-requires : tie.Need-mul-requires
-mul-requires c κs = search needs
+times-if-requires : tie.Need-times-if-requires
+times-if-requires c κs = search needs
 
 place-requires : tie.Need-place-requires
 place-requires c κs = let p = c .before .before .before .before .before .before .before .before .before .pre in shown _ _ _ _ (unknown-shown _ _ _ (p .ready) _ _ (omega (arith, c .before .before .before .before .in-order .ensures .1, c .before .before .before .before .before .rows .ensures)) (p .line)) (omega arith)
@@ -30,7 +30,7 @@ same-length : tie.Need-same-length
 same-length c = search needs
 
 returns : tie.Need-returns
-returns c = multiply-one-is complex _ _ _ _ _ _ _ _ _ _ _ _ _ refl (c .before .before .before .before .before .before .before .before .before .rows .ensures) (c .before .before .before .before .before .before .before .before .in-order .ensures .0) (c .before .before .before .place .ensures) (c .before .before .before .before .before .before .line-sum .ensures) (c .before .before .before .before .before .mul .ensures) (c .before .before .put-complex .ensures)
+returns c = multiply-one-is complex _ _ _ _ _ _ _ _ _ _ _ _ _ refl (c .before .before .before .before .before .before .before .before .before .rows .ensures) (c .before .before .before .before .before .before .before .before .in-order .ensures .0) (c .before .before .before .place .ensures) (c .before .before .before .before .before .before .line-sum .ensures) (c .before .before .before .before .before .times-if .ensures) (c .before .before .put-complex .ensures)
 
 pub multiply-one-spec : {M : Type 1} → statement M
 multiply-one-spec =
@@ -39,7 +39,7 @@ multiply-one-spec =
     rows-requires
     in-order-requires
     line-sum-requires
-    mul-requires
+    times-if-requires
     place-requires
     put-complex-requires
     same-length

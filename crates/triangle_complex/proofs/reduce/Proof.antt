@@ -1,50 +1,40 @@
 use Prim.Native.Nat.{_≤_, _-_}
-use mathlib.Core.Path.{_≡_, sym}
+use mathlib.Core.Path.{_≡_, refl}
 use native.Mathlib.Omega.{arith}
 use Rattle.number.specs.Kind.{complex}
 use Rattle.slab.specs.Elem.{elem}
 use Rattle.slab.specs.Run.{elemConj}
 use Rattle.blas.specs.Substitution.{minusTerms}
-use Rattle.blas.proofs.SubstitutionLaws.{minus-start, minus-next, minus-end}
 use Rattle.order.proofs.Systems.{weighed}
+use Rattle.order.proofs.Runs.{run-end, span-left, span-right, minus-first, minus-on, minus-done}
 use Rattle.triangle_complex.proofs.reduce.Statement.{statement}
 use Rattle.triangle_complex.proofs.reduce.Tie as tie
 
 abbrev Inv-loop : tie.InvT-loop
-Inv-loop conjugated a va b vb q l from n rest₀ i₀ rest i = (i ≤ n) × (rest ≡ minusTerms complex rest₀ (λ p. complex .mul (elemConj complex conjugated a va q p) (elem complex b vb p l)) from i)
+Inv-loop conjugated a va b vb q l from n rest₀ end p₀ rest p = (from ≤ p) × (p ≤ end) × (rest ≡ minusTerms complex rest₀ (λ i. complex .mul (elemConj complex conjugated a va q i) (elem complex b vb i l)) from (p - from))
 
 abbrev μ-loop : tie.MeasureT-loop
-μ-loop conjugated a va b vb q l from n rest₀ i₀ rest i = n - i
+μ-loop conjugated a va b vb q l from n rest₀ end p₀ rest p = end - p
+
+end-fits : tie.Need-add-end Inv-loop μ-loop
+end-fits c = omega (arith, run-end _ _ _ _ _ _ _ _ (c .before .before .pre) (omega arith))
 
 loop-holds : tie.Need-loop-holds Inv-loop μ-loop
-loop-holds c = (omega arith, sym (minus-start complex _ _ _))
-
-add-p : tie.Need-add-p Inv-loop μ-loop
-add-p c = let h = c .before .before .before .before .pre .left (c .before .loop .i) (omega arith) in omega (arith, h .col, h .fits .cols-le)
+loop-holds c = (omega arith, omega arith, minus-first complex _ _ _)
 
 at-requires : tie.Need-at-requires Inv-loop μ-loop
-at-requires c κs = c .before .before .before .before .pre .left _ (omega arith)
+at-requires c κs = span-left _ _ _ _ _ _ _ _ (c .before .before .before .before .pre) _ _ refl (c .before .loop .inv .0) (omega arith)
 
 elem-complex-requires : tie.Need-elem-complex-requires Inv-loop μ-loop
-elem-complex-requires c κs = c .before .before .before .before .before .pre .right _ (omega arith)
-
-mul-requires : tie.Need-mul-requires Inv-loop μ-loop
-mul-requires c κs = tt
-
-sub-requires : tie.Need-sub-requires Inv-loop μ-loop
-sub-requires c κs = tt
-
-add-i : tie.Need-add-i Inv-loop μ-loop
-add-i c = omega arith
-
-loop-less : tie.Need-loop-less Inv-loop μ-loop
-loop-less c = omega arith
+elem-complex-requires c κs = span-right _ _ _ _ _ _ _ _ (c .before .before .before .before .before .pre) _ _ refl (c .before .before .loop .inv .0) (omega arith)
 
 loop-again : tie.Need-loop-again Inv-loop μ-loop
-loop-again c = (omega arith, minus-next complex _ _ _ _ _ _ _ (c .before .before .before .before .before .loop .inv .1) (weighed complex _ _ _ _ _ (c .before .before .before .at .ensures) (c .before .before .elem-complex .ensures) (c .before .mul .ensures)) (c .sub .ensures))
+loop-again c =
+    let i = c .before .before .before .before .before .loop .inv in
+    (omega arith, omega arith, minus-on complex _ _ _ _ _ _ _ (i .0) (i .2) (weighed complex _ _ _ _ _ (c .before .before .before .at .ensures) (c .before .before .elem-complex .ensures) (c .before .mul .ensures)) (c .sub .ensures))
 
 returns : tie.Need-returns Inv-loop μ-loop
-returns c = minus-end complex _ _ _ _ _ _ (c .before .loop .inv .0) (omega arith) (c .before .loop .inv .1)
+returns c = let i = c .before .loop .inv in minus-done complex _ _ _ _ _ _ _ refl (i .1) (omega arith) (i .2)
 
 pub reduce-spec : {M : Type 1} → statement M
 reduce-spec =
@@ -52,13 +42,13 @@ reduce-spec =
     (tie.spec
     Inv-loop
     μ-loop
+    end-fits
     loop-holds
-    add-p
     at-requires
     elem-complex-requires
-    mul-requires
-    sub-requires
-    add-i
-    loop-less
+    (λ c κs. tt)
+    (λ c κs. tt)
+    (λ c. omega (arith, run-end _ _ _ _ _ _ _ _ (c .before .before .before .before .before .before .before .before .pre) (omega arith)))
+    (λ c. omega arith)
     loop-again
     returns)

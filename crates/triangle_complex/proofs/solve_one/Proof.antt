@@ -29,25 +29,22 @@ times-if-requires c κs = search needs
 reduce-requires : tie.Need-reduce-requires
 reduce-requires c κs = run-spans _ _ _ (c .before .before .before .before .before .before .before .before .before .pre .ready) _ _ _ _ (omega (arith, c .before .before .before .before .before .in-order .ensures .1, c .before .before .before .before .before .before .rows .ensures)) (c .before .before .before .before .before .before .before .before .before .pre .line) (omega (arith, c .before .before .before .before .least-solved .ensures .1, c .before .before .before .before .before .before .rows .ensures))
 
-place-requires : tie.Need-place-requires
-place-requires c κs = shown _ _ _ _ (pivot-shown _ _ 0 _ (c .before .before .before .before .before .before .before .before .before .before .pre .ready .pivots) (omega (arith, c .before .before .before .before .before .before .in-order .ensures .1, c .before .before .before .before .before .before .before .rows .ensures))) (omega (arith, c .before .before .before .before .before .before .before .before .before .before .good .1 .1 .1 .0))
-
 by-pivot-requires : tie.Need-by-pivot-requires
-by-pivot-requires c κs = (pivot-shown _ _ 0 _ (c .before .before .before .before .before .before .before .before .before .before .before .pre .ready .pivots) (omega (arith, c .before .before .before .before .before .before .before .in-order .ensures .1, c .before .before .before .before .before .before .before .before .rows .ensures)), c .place .ensures)
+by-pivot-requires c κs = pivot-shown _ _ 0 _ (c .before .before .before .before .before .before .before .before .before .before .pre .ready .pivots) (omega (arith, c .before .before .before .before .before .before .in-order .ensures .1, c .before .before .before .before .before .before .before .rows .ensures))
 
-place-requires-2 : tie.Need-place-requires-2
-place-requires-2 c κs = shown _ _ _ _ (unknown-shown _ _ _ (c .before .before .before .before .before .before .before .before .before .before .before .before .before .pre .ready) _ _ (omega (arith, c .before .before .before .before .before .before .before .before .before .in-order .ensures .1, c .before .before .before .before .before .before .before .before .before .before .rows .ensures)) (c .before .before .before .before .before .before .before .before .before .before .before .before .before .pre .line)) (omega (arith, c .before .before .before .before .before .before .before .before .before .before .before .before .before .good .1 .1 .1 .1 .0))
+place-requires : tie.Need-place-requires
+place-requires c κs = shown _ _ _ _ (unknown-shown _ _ _ (c .before .before .before .before .before .before .before .before .before .before .before .before .pre .ready) _ _ (omega (arith, c .before .before .before .before .before .before .before .before .in-order .ensures .1, c .before .before .before .before .before .before .before .before .before .rows .ensures)) (c .before .before .before .before .before .before .before .before .before .before .before .before .pre .line)) (omega (arith, c .before .before .before .before .before .before .before .before .before .before .before .before .good .1 .1 .1 .1 .0))
 
 put-complex-requires : tie.Need-put-complex-requires
-put-complex-requires c κs = inside _ _ _ _ (unknown-shown _ _ _ (c .before .before .before .before .before .before .before .before .before .before .before .before .before .before .pre .ready) _ _ (omega (arith, c .before .before .before .before .before .before .before .before .before .before .in-order .ensures .1, c .before .before .before .before .before .before .before .before .before .before .before .rows .ensures)) (c .before .before .before .before .before .before .before .before .before .before .before .before .before .before .pre .line)) _ (c .place2 .ensures)
+put-complex-requires c κs = inside _ _ _ _ (unknown-shown _ _ _ (c .before .before .before .before .before .before .before .before .before .before .before .before .before .pre .ready) _ _ (omega (arith, c .before .before .before .before .before .before .before .before .before .in-order .ensures .1, c .before .before .before .before .before .before .before .before .before .before .rows .ensures)) (c .before .before .before .before .before .before .before .before .before .before .before .before .before .pre .line)) _ (c .place .ensures)
 
 same-length : tie.Need-same-length
 same-length c = search needs
 
 returns : tie.Need-returns
 returns c =
-    let p = c .before .before .before .before .before .before .before .before .before .before .before .before .before .before .before .before .before .args in
-    solve-one-is complex (p .sys) (now (p .a)) (timesIf complex (p .times) (p .alpha)) _ _ _ _ _ _ _ _ _ _ _ _ (c .before .before .before .before .before .before .before .before .before .before .before .before .before .before .rows .ensures) (c .before .before .before .before .before .before .before .before .before .before .before .before .before .in-order .ensures .0) (c .before .before .before .before .before .before .before .before .before .before .before .before .least-solved .ensures .0) (c .before .before .before .before .before .before .before .before .before .before .elem-complex .ensures) (c .before .before .before .before .before .before .before .before .before .times-if .ensures) (c .before .before .before .before .before .before .before .reduce .ensures) (c .before .before .before .before .before .by-pivot .ensures) (c .before .before .before .place2 .ensures) (c .before .before .put-complex .ensures)
+    let p = c .before .before .before .before .before .before .before .before .before .before .before .before .before .before .before .before .args in
+    solve-one-is complex (p .sys) (now (p .a)) (timesIf complex (p .times) (p .alpha)) _ _ _ _ _ _ _ _ _ _ _ _ (c .before .before .before .before .before .before .before .before .before .before .before .before .before .rows .ensures) (c .before .before .before .before .before .before .before .before .before .before .before .before .in-order .ensures .0) (c .before .before .before .before .before .before .before .before .before .before .before .least-solved .ensures .0) (c .before .before .before .before .before .before .before .before .before .elem-complex .ensures) (c .before .before .before .before .before .before .before .before .times-if .ensures) (c .before .before .before .before .before .before .reduce .ensures) (c .before .before .before .before .before .by-pivot .ensures) (c .before .before .before .place .ensures) (c .before .before .put-complex .ensures)
 
 pub solve-one-spec : {M : Type 1} → statement M
 solve-one-spec =
@@ -59,9 +56,8 @@ solve-one-spec =
     elem-complex-requires
     times-if-requires
     reduce-requires
-    place-requires
     by-pivot-requires
-    place-requires-2
+    place-requires
     put-complex-requires
     same-length
     returns)

@@ -5,7 +5,7 @@ use Rattle.order.proofs.InOrder.{complex-swaps}
 use Rattle.number.proofs.Commutes.{complex-commutes}
 use Rattle.order.proofs.Judged.{vector-passed, vector-runs}
 use Rattle.order.proofs.ProductKernels.{trmv-refused, trmv-done}
-use Rattle.order.proofs.Systems.{ready-made, one-line}
+use Rattle.order.proofs.Systems.{ready-made}
 use borrow.Author.Needs.{needs}
 use Rattle.triangle_complex.proofs.trmv.Statement.{statement}
 use Rattle.triangle_complex.proofs.trmv.Tie as tie
@@ -25,16 +25,16 @@ column-requires c κs = vector-passed _ _ _ _ _ _ (c .before .before .check-trmv
 system-of-requires : tie.Need-system-of-requires
 system-of-requires c κs = search needs
 
-multiply-vector-requires : tie.Need-multiply-vector-requires
-multiply-vector-requires c κs =
+multiply-requires : tie.Need-multiply-requires
+multiply-requires c κs =
     let p = c .before .before .before .before .before .before .before .before .before .args in
-    (ready-made (p .uplo) (p .trans) _ _ _ _ _ _ _ _ (vector-runs _ _ _ _ _ _ (c .before .before .before .before .before .check-trmv .ensures) (c .before .before .before .before .passed .ensures) (c .before .before .before .if1 .taken) _ (c .before .before .column .ensures)) (c .before .system-of .ensures) refl, one-line (p .uplo) (p .trans) (p .diag) (p .va) _ _ _ (c .before .before .column .ensures) (c .before .system-of .ensures))
+    ready-made (p .uplo) (p .trans) _ _ _ _ _ _ _ _ (vector-runs _ _ _ _ _ _ (c .before .before .before .before .before .check-trmv .ensures) (c .before .before .before .before .passed .ensures) (c .before .before .before .if1 .taken) _ (c .before .before .column .ensures)) (c .before .system-of .ensures) refl
 
 same-length : tie.Need-same-length
 same-length c = search needs
 
 returns : tie.Need-returns
-returns c = trmv-done complex (complex-laws .slab) complex-swaps complex-commutes _ _ _ _ _ _ _ (c .before .before .before .before .before .before .before .before .check-trmv .ensures) (c .before .before .before .before .before .before .before .passed .ensures) (c .before .before .before .before .before .before .if1 .taken) _ (c .before .before .before .before .before .column .ensures) _ (c .before .before .before .before .system-of .ensures) _ (c .before .before .multiply-vector .ensures)
+returns c = trmv-done complex (complex-laws .slab) complex-swaps complex-commutes _ _ _ _ _ _ _ (c .before .before .before .before .before .before .before .before .check-trmv .ensures) (c .before .before .before .before .before .before .before .passed .ensures) (c .before .before .before .before .before .before .if1 .taken) _ (c .before .before .before .before .before .column .ensures) _ (c .before .before .before .before .system-of .ensures) _ (c .before .before .multiply .ensures)
 
 returns-2 : tie.Need-returns-2
 returns-2 c = trmv-refused complex (complex-laws .slab) complex-swaps complex-commutes _ _ _ _ _ _ _ (c .before .before .check-trmv .ensures) (c .before .passed .ensures) (c .if1 .left)
@@ -48,7 +48,7 @@ trmv-spec =
     passed-requires
     column-requires
     system-of-requires
-    multiply-vector-requires
+    multiply-requires
     same-length
     returns
     returns-2)

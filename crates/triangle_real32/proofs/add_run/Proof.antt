@@ -1,55 +1,39 @@
 use Prim.Native.Nat.{_≤_, _-_}
-use mathlib.Core.Path.{_≡_}
+use mathlib.Core.Path.{_≡_, refl}
 use native.Mathlib.Omega.{arith}
-use denote.Ref.{now}
 use Rattle.number.specs.Kind.{real32}
 use Rattle.slab.specs.Elem.{elem}
 use Rattle.slab.specs.Run.{elemConj, plusTerms}
-use Rattle.slab.proofs.RunLaws.{plus-start, plus-end, plus-next}
-use Rattle.order.proofs.Systems.{weighed, not-past}
+use Rattle.order.proofs.Systems.{weighed}
+use Rattle.order.proofs.Runs.{run-end, span-left, span-right, plus-first, plus-on, plus-done}
 use Rattle.triangle_real32.proofs.add_run.Statement.{statement}
 use Rattle.triangle_real32.proofs.add_run.Tie as tie
 
 abbrev Inv-loop : tie.InvT-loop
-Inv-loop conjugated a va b vb q l from n x sum₀ i₀ sum i = (i ≤ n) × (sum ≡ plusTerms real32 sum₀ (λ p. real32 .mul (elemConj real32 conjugated a va q p) (elem real32 b vb p l)) from i)
+Inv-loop conjugated a va b vb q l from n x sum₀ end p₀ sum p = (from ≤ p) × (p ≤ end) × (sum ≡ plusTerms real32 x (λ i. real32 .mul (elemConj real32 conjugated a va q i) (elem real32 b vb i l)) from (p - from))
 
 abbrev μ-loop : tie.MeasureT-loop
-μ-loop conjugated a va b vb q l from n x sum₀ i₀ sum i = n - i
+μ-loop conjugated a va b vb q l from n x sum₀ end p₀ sum p = end - p
+
+end-fits : tie.Need-add-end Inv-loop μ-loop
+end-fits c = omega (arith, run-end _ _ _ _ _ _ _ _ (c .before .before .pre) (omega arith))
 
 loop-holds : tie.Need-loop-holds Inv-loop μ-loop
-loop-holds c = (omega arith, plus-start real32 _ _ _)
-
-add-p : tie.Need-add-p Inv-loop μ-loop
-add-p c = let h = c .before .before .before .before .pre .left (c .before .loop .i) (omega arith) in omega (arith, h .col, h .fits .cols-le)
-
-returns : tie.Need-returns Inv-loop μ-loop
-returns c = absurd (not-past _ _ (c .before .before .before .before .before .before .pre .right (c .before .before .before .loop .i) (omega arith) .row) (c .if1 .taken))
+loop-holds c = (omega arith, omega arith, plus-first real32 _ _ _)
 
 at-requires : tie.Need-at-requires Inv-loop μ-loop
-at-requires c κs = c .before .before .before .before .before .before .pre .left _ (omega arith)
+at-requires c κs = span-left _ _ _ _ _ _ _ _ (c .before .before .before .before .pre) _ _ refl (c .before .loop .inv .0) (omega arith)
 
 elem32-requires : tie.Need-elem32-requires Inv-loop μ-loop
-elem32-requires c κs = c .before .before .before .before .before .before .before .pre .right _ (omega arith)
-
-mul-requires : tie.Need-mul-requires Inv-loop μ-loop
-mul-requires c κs = tt
-
-add-requires : tie.Need-add-requires Inv-loop μ-loop
-add-requires c κs = tt
-
-add-i : tie.Need-add-i Inv-loop μ-loop
-add-i c = omega arith
-
-loop-less : tie.Need-loop-less Inv-loop μ-loop
-loop-less c = omega arith
+elem32-requires c κs = span-right _ _ _ _ _ _ _ _ (c .before .before .before .before .before .pre) _ _ refl (c .before .before .loop .inv .0) (omega arith)
 
 loop-again : tie.Need-loop-again Inv-loop μ-loop
 loop-again c =
-    let p = c .before .before .before .before .before .before .before .before .before .before .args in
-    (omega arith, plus-next real32 (λ k. real32 .mul (elemConj real32 (p .conjugated) (now (p .a)) (p .va) (p .q) k) (elem real32 (now (p .b)) (p .vb) k (p .l))) _ _ _ _ _ _ (c .before .before .before .before .before .before .before .loop .inv .1) (weighed real32 _ _ _ _ _ (c .before .before .before .at .ensures) (c .before .before .elem32 .ensures) (c .before .mul .ensures)) (c .add .ensures))
+    let i = c .before .before .before .before .before .loop .inv in
+    (omega arith, omega arith, plus-on real32 _ _ _ _ _ _ _ (i .0) (i .2) (weighed real32 _ _ _ _ _ (c .before .before .before .at .ensures) (c .before .before .elem32 .ensures) (c .before .mul .ensures)) (c .add .ensures))
 
-returns-2 : tie.Need-returns-2 Inv-loop μ-loop
-returns-2 c = plus-end real32 _ _ _ _ _ _ (c .before .loop .inv .0) (omega arith) (c .before .loop .inv .1)
+returns : tie.Need-returns Inv-loop μ-loop
+returns c = let i = c .before .loop .inv in plus-done real32 _ _ _ _ _ _ _ refl (i .1) (omega arith) (i .2)
 
 pub add-run-spec : {M : Type 1} → statement M
 add-run-spec =
@@ -57,14 +41,13 @@ add-run-spec =
     (tie.spec
     Inv-loop
     μ-loop
+    end-fits
     loop-holds
-    add-p
-    returns
     at-requires
     elem32-requires
-    mul-requires
-    add-requires
-    add-i
-    loop-less
+    (λ c κs. tt)
+    (λ c κs. tt)
+    (λ c. omega (arith, run-end _ _ _ _ _ _ _ _ (c .before .before .before .before .before .before .before .before .pre) (omega arith)))
+    (λ c. omega arith)
     loop-again
-    returns-2)
+    returns)

@@ -14,8 +14,8 @@ rows-requires c κs = search needs
 in-order-requires : tie.Need-in-order-requires
 in-order-requires c κs = search needs
 
-vector-sum-requires : tie.Need-vector-sum-requires
-vector-sum-requires c κs = search needs
+line-sum-requires : tie.Need-line-sum-requires
+line-sum-requires c κs = search needs
 
 place-requires : tie.Need-place-requires
 place-requires c κs = let p = c .before .before .before .before .before .before .before .before .pre in shown _ _ _ _ (unknown-shown _ _ _ (p .ready) _ _ (omega (arith, c .before .before .before .in-order .ensures .1, c .before .before .before .before .rows .ensures)) (p .line)) (omega arith)
@@ -27,7 +27,7 @@ same-length : tie.Need-same-length
 same-length c = search needs
 
 returns : tie.Need-returns
-returns c = multiply-one-is real32 _ _ _ _ _ _ _ _ _ _ _ _ _ refl (c .before .before .before .before .before .before .before .before .rows .ensures) (c .before .before .before .before .before .before .before .in-order .ensures .0) (c .before .before .before .place .ensures) (c .before .before .before .before .before .vector-sum .ensures) refl (c .before .before .put32 .ensures)
+returns c = multiply-one-is real32 _ _ _ _ _ _ _ _ _ _ _ _ _ refl (c .before .before .before .before .before .before .before .before .rows .ensures) (c .before .before .before .before .before .before .before .in-order .ensures .0) (c .before .before .before .place .ensures) (c .before .before .before .before .before .line-sum .ensures) refl (c .before .before .put32 .ensures)
 
 pub multiply-next-spec : {M : Type 1} → statement M
 multiply-next-spec =
@@ -35,7 +35,7 @@ multiply-next-spec =
     (tie.spec
     rows-requires
     in-order-requires
-    vector-sum-requires
+    line-sum-requires
     place-requires
     put32-requires
     same-length

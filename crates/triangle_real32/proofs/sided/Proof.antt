@@ -1,40 +1,45 @@
+use lib.Ieee.{binary32}
+use Rattle.number.specs.Kind.{real32}
+use Rattle.number.proofs.Instances.{real32-laws}
+use Rattle.order.proofs.InOrder.{real-swaps}
+use Rattle.number.proofs.Commutes.{real-commutes}
+use Rattle.order.proofs.Systems.{ready-made}
+use Rattle.order.proofs.Solves.{solved-gives}
+use Rattle.order.proofs.SolveKernels.{sided-gives}
 use borrow.Author.Needs.{needs}
 use Rattle.triangle_real32.proofs.sided.Statement.{statement}
 use Rattle.triangle_real32.proofs.sided.Tie as tie
 
-enum-told : tie.Need-enum-told
-enum-told c = search needs
+scale-right-requires : tie.Need-scale-right-requires
+scale-right-requires c κs = search needs
 
-solve-left-requires : tie.Need-solve-left-requires
-solve-left-requires c κs = rw (c .before .enum-told .given .1) at (c .before .before .before .before .before .pre)
+system-of-requires : tie.Need-system-of-requires
+system-of-requires c κs = search needs
 
-enum-told-2 : tie.Need-enum-told-2
-enum-told-2 c = search needs
+is-left-requires : tie.Need-is-left-requires
+is-left-requires c κs = search needs
 
-solve-right-requires : tie.Need-solve-right-requires
-solve-right-requires c κs = rw (c .before .enum-told2 .given .1) at (c .before .before .before .before .before .pre)
+solve-lines-requires : tie.Need-solve-lines-requires
+solve-lines-requires c κs =
+    let p = c .before .before .before .before .before .before .before .before .before .args in
+    ready-made (p .uplo) (p .t) (p .diag) _ _ _ _ (p .side) _ _ (c .before .before .before .before .before .before .before .before .before .pre) (c .before .before .system-of .ensures) (c .before .before .before .before .before .scale-right .kept .1 .1 .0)
 
 same-length : tie.Need-same-length
 same-length c = search needs
 
 returns : tie.Need-returns
-returns c = rw (c .before .before .before .before .enum-told .given .1) (c .before .before .solve-left .ensures)
-
-same-length-2 : tie.Need-same-length-2
-same-length-2 c = search needs
-
-returns-2 : tie.Need-returns-2
-returns-2 c = rw (c .before .before .before .before .enum-told2 .given .1) (c .before .before .solve-right .ensures)
+returns c =
+    let p = c .before .before .before .before .before .before .before .before .before .before .before .before .args in
+    sided-gives real32 _ _ _ _ _ _ _ _ _ _ _ _ (c .before .before .before .before .before .before .before .before .scale-right .ensures) (c .before .before .before .before .is-left .ensures)
+    (solved-gives real32 (real-commutes binary32) (p .uplo) (p .t) (p .diag) _ _ _ _ _ _ _ (real32-laws .slab) (real-swaps binary32) (p .side) _ (c .before .before .before .before .before .system-of .ensures) (c .before .before .before .before .before .before .before .before .before .before .before .before .pre .distinct) (c .before .before .solve-lines .ensures))
 
 pub sided-spec : {M : Type 1} → statement M
 sided-spec =
     tie.close
     (tie.spec
-    enum-told
-    solve-left-requires
-    enum-told-2
-    solve-right-requires
+    scale-right-requires
+    system-of-requires
+    is-left-requires
+    solve-lines-requires
     same-length
-    returns
-    same-length-2
-    returns-2)
+    returns)

@@ -1,10 +1,8 @@
 use lib.Ieee.{binary32}
-use mathlib.Core.Path.{refl, sym, subst}
+use mathlib.Core.Path.{refl}
 use Rattle.number.specs.Kind.{real32}
 use Rattle.number.proofs.Instances.{real32-laws}
 use Rattle.view.specs.declared.Side.the-variants.{Left}
-use Rattle.slab.specs.Distinct.{Distinct}
-use Rattle.order.specs.declared.System.{System}
 use Rattle.order.proofs.Systems.{ready-made, one-line}
 use Rattle.order.proofs.Solves.{solved-gives}
 use Rattle.order.proofs.InOrder.{real-swaps}
@@ -33,7 +31,7 @@ system-of-requires c κs = search needs
 solve-vector-requires : tie.Need-solve-vector-requires
 solve-vector-requires c κs =
     let p = c .before .before .before .before .before .before .before .before .before .args in
-    (ready-made (p .uplo) (p .trans) (p .diag) _ _ _ _ Left _ _ (vector-runs _ _ _ _ _ _ (c .before .before .before .before .before .check-trsv .ensures) (c .before .before .before .before .passed .ensures) (c .before .before .before .if1 .taken) _ (c .before .before .column .ensures)) (c .before .system-of .ensures) refl, one-line (p .uplo) (p .trans) (p .diag) (p .va) _ _ _ (c .before .before .column .ensures) (c .before .system-of .ensures), subst (λ (y : System). Distinct (y .b)) (sym (c .before .system-of .ensures)) ((vector-runs _ _ _ _ _ _ (c .before .before .before .before .before .check-trsv .ensures) (c .before .before .before .before .passed .ensures) (c .before .before .before .if1 .taken) _ (c .before .before .column .ensures)) .distinct))
+    (ready-made (p .uplo) (p .trans) (p .diag) _ _ _ _ Left _ _ (vector-runs _ _ _ _ _ _ (c .before .before .before .before .before .check-trsv .ensures) (c .before .before .before .before .passed .ensures) (c .before .before .before .if1 .taken) _ (c .before .before .column .ensures)) (c .before .system-of .ensures) refl, one-line (p .uplo) (p .trans) (p .diag) (p .va) _ _ _ (c .before .before .column .ensures) (c .before .system-of .ensures))
 
 same-length : tie.Need-same-length
 same-length c = search needs

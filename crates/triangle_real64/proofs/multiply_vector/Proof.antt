@@ -6,6 +6,7 @@ use Rattle.number.specs.Kind.{real64}
 use Rattle.order.specs.Walk.{walk}
 use Rattle.order.specs.Multiply.{multiplyOne}
 use Rattle.order.proofs.Systems.{ready-for}
+use Rattle.order.proofs.Multiplies.{only-line}
 use Rattle.order.proofs.WalkLaws.{walk-start, walk-next, walk-end}
 use Rattle.triangle_real64.proofs.multiply_vector.Statement.{statement}
 use Rattle.triangle_real64.proofs.multiply_vector.Tie as tie
@@ -40,7 +41,7 @@ same-length : tie.Need-same-length Inv-loop μ-loop
 same-length c = c .before .loop .inv .1
 
 returns : tie.Need-returns Inv-loop μ-loop
-returns c = walk-end _ _ _ _ _ (omega (arith, c .before .loop .inv .0, c .before .before .rows .ensures)) (omega (arith, c .before .before .rows .ensures)) (c .before .loop .inv .2)
+returns c = only-line real64 _ _ _ _ _ _ (c .before .before .before .before .before .pre .1) (c .before .before .rows .ensures) (walk-end _ _ _ _ _ (c .before .loop .inv .0) (omega arith) (c .before .loop .inv .2))
 
 pub multiply-vector-spec : {M : Type 1} → statement M
 multiply-vector-spec =

@@ -1,0 +1,64 @@
+use denote.Ref.{now}
+use native.Mathlib.Omega.{arith}
+use lib.Ieee.{binary64}
+use Rattle.number.specs.Kind.{real64}
+use Rattle.number.proofs.Literals.{zero-literal}
+use Rattle.order.proofs.Systems.{run-spans}
+use Rattle.order.proofs.Runs.{eight-of}
+use Rattle.order.proofs.LineSums.{sums-behind, sums-before}
+use borrow.Author.Needs.{needs}
+use Rattle.triangle_real64.proofs.line_sums.Statement.{statement}
+use Rattle.triangle_real64.proofs.line_sums.Tie as tie
+
+own-weight-requires : tie.Need-own-weight-requires
+own-weight-requires c κs = search needs
+
+rows-requires : tie.Need-rows-requires
+rows-requires c κs = search needs
+
+sub-n : tie.Need-sub-n
+sub-n c = search needs
+
+sub-n-2 : tie.Need-sub-n-2
+sub-n-2 c = search needs
+
+add-eight64-requires : tie.Need-add-eight64-requires
+add-eight64-requires c κs = search needs
+
+add-add-run-eight : tie.Need-add-add-run-eight
+add-add-run-eight c = search needs
+
+add-run-eight-requires : tie.Need-add-run-eight-requires
+add-run-eight-requires c κs = let p = c .before .before .before .before .before .before .pre in run-spans _ _ _ (p .ready) _ _ _ _ (p .unknown) (p .line) (omega (arith, p .unknown, c .before .rows .ensures))
+
+add-run-eight-requires-2 : tie.Need-add-run-eight-requires-2
+add-run-eight-requires-2 c κs = let p = c .before .before .before .before .pre in run-spans _ _ _ (p .ready) _ _ _ _ (p .unknown) (p .line) (omega (arith, p .unknown))
+
+add-eight64-requires-2 : tie.Need-add-eight64-requires-2
+add-eight64-requires-2 c κs = search needs
+
+returns : tie.Need-returns
+returns c =
+    let p = c .before .before .before .before .before .before .before .args in
+    sums-behind real64 (p .sys) (now (p .a)) (now (p .b)) (p .q) (p .l) _ _ _ _ (c .before .before .before .before .own-weight .ensures) (eight-of binary64 _) (zero-literal binary64) _ _ (c .before .before .before .if1 .taken) (c .before .before .rows .ensures) (c .before .add-eight64 .ensures) (c .add-run-eight .ensures)
+
+returns-2 : tie.Need-returns-2
+returns-2 c =
+    let p = c .before .before .before .before .before .before .args in
+    sums-before real64 (p .sys) (now (p .a)) (now (p .b)) (p .q) (p .l) _ _ _ _ (c .before .before .before .own-weight .ensures) (eight-of binary64 _) (zero-literal binary64) _ (c .before .before .if1 .left) (c .before .add-run-eight2 .ensures) (c .add-eight642 .ensures)
+
+pub line-sums-spec : {M : Type 1} → statement M
+line-sums-spec =
+    tie.close
+    (tie.spec
+    own-weight-requires
+    rows-requires
+    sub-n
+    sub-n-2
+    add-eight64-requires
+    add-add-run-eight
+    add-run-eight-requires
+    add-run-eight-requires-2
+    add-eight64-requires-2
+    returns
+    returns-2)
