@@ -2,7 +2,7 @@
 -- eight side by side.
 use Prim.Native.Nat.{ℕ, zero, suc, _+_, _-_, _^_, _≤_, _<_}
 use mathlib.Core.Bool.{Bool}
-use mathlib.Core.List.{List, [], _∷_}
+use mathlib.Core.List.{List}
 use mathlib.Core.Path.{_≡_, refl, ap, sym, subst, _∙_}
 use native.Mathlib.Omega.{arith}
 use lib.Ieee.{Float, Format}
@@ -59,24 +59,6 @@ module _ (K : Kind) (f : ℕ → K .Elem) (x : K .Elem) (from : ℕ) where
 
   pub plus-done : (n p end : ℕ) (y : K .Elem) → end ≡ from + n → p ≤ end → end ≤ p → y ≡ plusTerms K x f from (p - from) → y ≡ plusTerms K x f from n
   plus-done n p end y c h g e = e ∙ ap (plusTerms K x f from) (all from n p end c h g)
-
--- eight times the same number
-pub eight-of : (f : Format) (x : Float) → Eight (real f) (x ∷ x ∷ x ∷ x ∷ x ∷ x ∷ x ∷ x ∷ []) (λ t. x)
-eight-of f x = record { count = refl; sum = each }
-  where
-    each : (t : ℕ) → t < 8 → real f .at (x ∷ x ∷ x ∷ x ∷ x ∷ x ∷ x ∷ x ∷ []) t ≡ x
-    each zero l = refl
-    each (suc zero) l = refl
-    each (suc (suc zero)) l = refl
-    each (suc (suc (suc zero))) l = refl
-    each (suc (suc (suc (suc zero)))) l = refl
-    each (suc (suc (suc (suc (suc zero))))) l = refl
-    each (suc (suc (suc (suc (suc (suc zero)))))) l = refl
-    each (suc (suc (suc (suc (suc (suc (suc zero))))))) l = refl
-    each (suc (suc (suc (suc (suc (suc (suc (suc t)))))))) l = absurd (none-left t l)
-      where
-        none-left : (t : ℕ) → suc (suc (suc (suc (suc (suc (suc (suc t))))))) < 8 → ⊥
-        none-left t l = omega arith
 
 -- eight numbers, each worked out from its own
 pub eight-then : (K : Kind) (g : K .Elem → K .Elem) (f : ℕ → K .Elem) (xs ys : List (K .Cell)) → Eight K xs f → Eight K ys (λ t. g (K .at xs t)) → Eight K ys (λ t. g (f t))

@@ -204,7 +204,7 @@ fn settle_block(
     end: usize,
     sums: [f32; 8],
 )
-    requires { ⌜ Accepted v (real32 .count (now c)) × (i < v .rows) × Block from first end (v .cols) ⌝ }
+    requires { ⌜ Accepted v (real32 .count (now c)) × (i < v .rows) × Block 8 from first end (v .cols) ⌝ }
     ensures { λ _. ⌜ now (c .exit) ≡ span real32 v (accumulate real32 (scaleBy32 beta) (real32 .mul (alpha .0)) (λ i j. real32 .at sums (j - from))) i first end (now (c .entry)) ⌝ }
 {
     let mut j = first;
@@ -227,7 +227,7 @@ fn block(
     first: usize,
     end: usize,
 )
-    requires { ⌜ PlanReady plan (real32 .count (now a)) (real32 .count (now b)) (real32 .count (now c)) × (i < plan .target .rows) × Block from first end (plan .target .cols) ⌝ }
+    requires { ⌜ PlanReady plan (real32 .count (now a)) (real32 .count (now b)) (real32 .count (now c)) × (i < plan .target .rows) × Block 8 from first end (plan .target .cols) ⌝ }
     ensures { λ _. ⌜ now (c .exit) ≡ span real32 (plan .target) (planChange real32 plan (scaleBy32 beta) (real32 .mul (alpha .0)) (now (a .entry)) (now (b .entry))) i first end (now (c .entry)) ⌝ }
 {
     let sums = add_eight(plan.factors, a, b, i, from, 0, plan.terms, [0.0; 8]);
@@ -242,7 +242,7 @@ fn wide_row(plan: Plan, a: &[f32], b: &[f32], alpha: Real32, beta: Beta32, c: &m
     let n = cols(plan.target);
     let mut j = 0;
     while j < n {
-        let from = block_start(j, n);
+        let from = block_start(8, j, n);
         block(plan, a, b, alpha, beta, c, i, from, j, from + 8);
         j = from + 8;
     }
@@ -326,7 +326,7 @@ fn settle_column(
     first: usize,
     sums: [f32; 8],
 )
-    requires { ⌜ Accepted v (real32 .count (now c)) × (v .cols ≡ 1) × Block from first (from + 8) (v .rows) ⌝ }
+    requires { ⌜ Accepted v (real32 .count (now c)) × (v .cols ≡ 1) × Block 8 from first (from + 8) (v .rows) ⌝ }
     ensures { λ _. ⌜ now (c .exit) ≡ spanRows real32 v (accumulate real32 (scaleBy32 beta) (real32 .mul (alpha .0)) (λ i j. real32 .at sums (i - from))) first (from + 8) (now (c .entry)) ⌝ }
 {
     let end = from + 8;
@@ -345,7 +345,7 @@ fn column_wide(plan: Plan, a: &[f32], b: &[f32], alpha: Real32, beta: Beta32, c:
     let m = rows(plan.target);
     let mut i = 0;
     while i < m {
-        let from = block_start(i, m);
+        let from = block_start(8, i, m);
         let sums = column_sums(plan, a, b, from);
         settle_column(plan.target, alpha, beta, c, from, i, sums);
         i = from + 8;
@@ -648,7 +648,7 @@ fn folded_block(
     first: usize,
     end: usize,
 )
-    requires { ⌜ FoldedReady plan (real32 .count (now a)) (real32 .count (now b)) (real32 .count (now c)) × (i < plan .target .rows) × Block from first end (plan .target .cols) ⌝ }
+    requires { ⌜ FoldedReady plan (real32 .count (now a)) (real32 .count (now b)) (real32 .count (now c)) × (i < plan .target .rows) × Block 8 from first end (plan .target .cols) ⌝ }
     ensures { λ _. ⌜ now (c .exit) ≡ span real32 (plan .target) (foldedChange real32 plan (scaleBy32 beta) (real32 .mul (alpha .0)) (now (a .entry)) (now (b .entry))) i first end (now (c .entry)) ⌝ }
 {
     let sums = folded_eight(plan, a, b, i, from);
@@ -671,7 +671,7 @@ fn folded_wide_row(
     let n = cols(plan.target);
     let mut j = 0;
     while j < n {
-        let from = block_start(j, n);
+        let from = block_start(8, j, n);
         folded_block(plan, a, b, alpha, beta, c, i, from, j, from + 8);
         j = from + 8;
     }
@@ -1143,8 +1143,8 @@ fn triangle_wide_row(
     let end = end_col(uplo, i, n);
     let mut j = first_col(uplo, i);
     while j < end {
-        let from = block_start(j, n);
-        let stop = block_end(from, end);
+        let from = block_start(8, j, n);
+        let stop = block_end(8, from, end);
         block(plan, a, b, alpha, beta, c, i, from, j, stop);
         j = stop;
     }

@@ -469,8 +469,8 @@ fn syr2k_wide_row(
     let end = end_col(uplo, i, n);
     let mut j = first_col(uplo, i);
     while j < end {
-        let from = block_start(j, n);
-        let stop = block_end(from, end);
+        let from = block_start(8, j, n);
+        let stop = block_end(8, from, end);
         syr2k_block(alpha, beta, plan, a, b, c, i, from, j, stop);
         j = stop;
     }
@@ -543,8 +543,8 @@ fn her2k_wide_row(
     let end = end_col(uplo, i, n);
     let mut j = first_col(uplo, i);
     while j < end {
-        let from = block_start(j, n);
-        let stop = block_end(from, end);
+        let from = block_start(8, j, n);
+        let stop = block_end(8, from, end);
         her2k_block(alpha, beta, plan, a, b, c, i, from, j, stop);
         j = stop;
     }

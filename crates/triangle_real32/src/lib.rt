@@ -313,8 +313,8 @@ fn solve_blocks(
     let lines = cols(sys.b);
     let mut l = 0;
     while l < n {
-        let from = block_start(l, lines);
-        let end = block_end(from, n);
+        let from = block_start(8, l, lines);
+        let end = block_end(8, from, n);
         solve_eight(sys, times, alpha, a, b, k, from, l - from, end - from);
         l = end;
     }
@@ -656,7 +656,7 @@ fn multiply_blocks(sys: System, alpha: Real32, a: &[f32], b: &mut [f32], k: usiz
     let n = cols(sys.b);
     let mut l = 0;
     while l < n {
-        let from = block_start(l, n);
+        let from = block_start(8, l, n);
         multiply_eight(sys, alpha, a, b, k, from, l - from);
         l = from + 8;
     }

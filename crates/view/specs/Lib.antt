@@ -11,7 +11,6 @@ pub mod AnyLaws
 pub mod Signs
 pub mod PlaceLaws
 pub mod TransposeLaws
-pub mod StepLaws
 pub mod OverlapLaws
 pub mod VectorLaws
 pub mod JudgeLaws

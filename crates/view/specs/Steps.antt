@@ -1,6 +1,6 @@
 -- What the steps of the checks work out, and what `place` asks of its caller.
 use mathlib.Core.Bool.{Bool, _&&_}
-use Prim.Native.Nat.{ℕ, suc, _+_, _-_, _*_, _^_, _≤_, _<_}
+use Prim.Native.Nat.{ℕ, suc, _+_, _*_, _^_, _≤_, _<_}
 use lib.Dec.{ltb, eqb}
 use lib.IntN.{ℤ, pos, negsuc}
 use Rattle.view.specs.declared.View.{View}
@@ -15,11 +15,6 @@ up (negsuc n) = 0
 abbrev pub down : ℤ → ℕ
 down (pos n) = 0
 down (negsuc n) = suc n
-
--- what a stride adds to a place, modulo 2^64
-abbrev pub stepOf : ℤ → ℕ
-stepOf (pos n) = n
-stepOf (negsuc n) = 2 ^ 64 - 1 - n
 
 -- k steps of x reach as far as d steps of y, for some k < rows and d < cols that are not both 0
 unfoldable pub meets : ℕ → ℕ → ℕ → ℕ → Bool

@@ -1,7 +1,7 @@
 // Views of a slab, the flags of the routines, and what a call answers.
 ghost use mathlib.Core.Path.{_≡_};
 ghost use mathlib.Core.Bool.{true};
-ghost use Prim.Native.Nat.{_+_, _%_, _<_, _^_};
+ghost use Prim.Native.Nat.{_<_, _^_};
 ghost use lib.IntN.{pos, _*ℤ_};
 ghost use mir.Syntax.{w64};
 ghost use mir.Val.{SFits};
@@ -10,8 +10,7 @@ ghost use Rattle.view.specs.Vector.{vecCoord, uprightOf, columnOf};
 ghost use Rattle.view.specs.Triangle.{firstCol, endCol};
 ghost use Rattle.view.specs.Judge.{answerNumber, isDone};
 ghost use Rattle.view.specs.Checks.{opRows, opCols, vectorOf};
-ghost use Rattle.view.specs.Steps.{Shown, stepOf};
-use std::num::wrapping_add_usize;
+ghost use Rattle.view.specs.Steps.{Shown};
 
 // Element (r, c) is at start + r * rs + c * cs, counted in elements of the slab.
 pub struct View {
@@ -130,38 +129,6 @@ pub fn place(v: View, r: usize, c: usize) -> usize
     ensures { λ p. ⌜ p ≡ index v r c ⌝ }
 {
     (v.start as i64 + steps(r, v.rs) + steps(c, v.cs)) as usize
-}
-
-// A stride as what it adds to a place, modulo 2^64.
-fn step(z: i64) -> usize
-    ensures { λ r. ⌜ r ≡ stepOf z ⌝ }
-{
-    if z < 0 {
-        usize::MAX - (-1 - z) as usize
-    } else {
-        z as usize
-    }
-}
-
-// What a step to the next row adds.
-pub fn row_step(v: View) -> usize
-    ensures { λ r. ⌜ r ≡ stepOf (v .rs) ⌝ }
-{
-    step(v.rs)
-}
-
-// What a step to the next column adds.
-pub fn col_step(v: View) -> usize
-    ensures { λ r. ⌜ r ≡ stepOf (v .cs) ⌝ }
-{
-    step(v.cs)
-}
-
-// What a step down the diagonal adds.
-pub fn diagonal_step(v: View) -> usize
-    ensures { λ r. ⌜ r ≡ (stepOf (v .rs) + stepOf (v .cs)) % 2 ^ 64 ⌝ }
-{
-    wrapping_add_usize(row_step(v), col_step(v))
 }
 
 // The same elements with rows and columns exchanged.

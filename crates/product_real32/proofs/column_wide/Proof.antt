@@ -45,7 +45,7 @@ column-wide-spec =
     μ-loop
     (λ c κs. tt)
     loop-holds
-    (λ c κs. let r = c .before .before .before .before .before .before .pre in (omega arith, omega (arith, r .2, c .before .before .rows .ensures), omega (arith, r .0 .target .rows-le, c .before .before .rows .ensures)))
+    (λ c κs. let r = c .before .before .before .before .before .before .pre in (omega arith, omega (arith, r .2, c .before .before .rows .ensures), omega (arith, r .0 .target .rows-le, c .before .before .rows .ensures), omega arith))
     (λ c κs. let r = c .before .before .before .before .before .before .before .pre in (r .0 .reads, omega (arith, c .block-start .ensures .2, c .before .before .before .rows .ensures), r .1))
     settle-column-requires
     (λ c. omega (arith, c .before .before .before .before .before .block-start .ensures .2))

@@ -13,7 +13,7 @@ use Rattle.product_real32.proofs.folded_block.Tie as tie
 returns : tie.Need-returns
 returns c =
     let p = c .before .before .before .before .before .before .before .before in
-    block-settled real32 (p .args .plan .target) (scaleBy32 (p .args .beta)) (real32 .mul (p .args .alpha .0)) (foldedProduct real32 (p .args .plan) (now (p .args .a)) (now (p .args .b))) _ (p .args .i) (p .args .from) (p .args .first) (p .args .end) _ (now (p .args .c)) _ (p .pre .2)
+    block-settled real32 (p .args .plan .target) (scaleBy32 (p .args .beta)) (real32 .mul (p .args .alpha .0)) (foldedProduct real32 (p .args .plan) (now (p .args .a)) (now (p .args .b))) _ _ (p .args .i) (p .args .from) (p .args .first) (p .args .end) _ (now (p .args .c)) _ (p .pre .2)
     (c .before .before .before .before .folded-eight .ensures)
     (c .before .before .settle-block .ensures)
 

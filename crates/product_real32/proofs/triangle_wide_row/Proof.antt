@@ -53,7 +53,7 @@ triangle-wide-row-spec =
     (λ c κs. omega (arith, c .before .before .before .before .pre .2, c .cols .ensures))
     (λ c κs. tt)
     loop-holds
-    (λ c κs. let p = c .before .before .before .before .before .before .before .before in let h = row-columns (p .args .uplo) _ _ _ _ _ (p .pre .2) (c .before .before .before .before .cols .ensures) (c .before .before .first-col .ensures) (c .before .before .before .end-col .ensures) in (omega (arith, h .within), omega (arith, p .pre .3, c .before .before .before .before .cols .ensures), omega (arith, p .pre .0 .target .cols-le, c .before .before .before .before .cols .ensures)))
+    (λ c κs. let p = c .before .before .before .before .before .before .before .before in let h = row-columns (p .args .uplo) _ _ _ _ _ (p .pre .2) (c .before .before .before .before .cols .ensures) (c .before .before .first-col .ensures) (c .before .before .before .end-col .ensures) in (omega (arith, h .within), omega (arith, p .pre .3, c .before .before .before .before .cols .ensures), omega (arith, p .pre .0 .target .cols-le, c .before .before .before .before .cols .ensures), omega arith))
     (λ c κs. let p = c .before .before .before .before .before .before .before .before .before in omega (arith, c .block-start .ensures .2, p .pre .0 .target .cols-le, c .before .before .before .before .before .cols .ensures))
     block-requires
     (λ c. let l = c .before .before .before .before .before .before .before .loop in omega (arith, c .before .before .before .before .block-end .ensures .2 (l .j) (omega arith) (c .before .before .before .before .before .block-start .ensures .1), c .before .before .before .before .block-end .ensures .0))

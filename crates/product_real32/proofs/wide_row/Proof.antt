@@ -42,7 +42,7 @@ wide-row-spec =
     μ-loop
     (λ c κs. tt)
     loop-holds
-    (λ c κs. let r = c .before .before .before .before .before .before .pre in (omega arith, omega (arith, r .2, c .before .before .cols .ensures), omega (arith, r .0 .target .cols-le, c .before .before .cols .ensures)))
+    (λ c κs. let r = c .before .before .before .before .before .before .pre in (omega arith, omega (arith, r .2, c .before .before .cols .ensures), omega (arith, r .0 .target .cols-le, c .before .before .cols .ensures), omega arith))
     (λ c. omega (arith, c .before .block-start .ensures .2))
     block-requires
     (λ c. omega (arith, c .before .before .before .before .block-start .ensures .2))

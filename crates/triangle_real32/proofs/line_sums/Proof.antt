@@ -4,7 +4,7 @@ use lib.Ieee.{binary32}
 use Rattle.number.specs.Kind.{real32}
 use Rattle.number.proofs.Literals.{zero-literal}
 use Rattle.order.proofs.Systems.{run-spans}
-use Rattle.order.proofs.Runs.{eight-of}
+use Rattle.slab.proofs.EightLaws.{eight-of}
 use Rattle.order.proofs.LineSums.{sums-behind, sums-before}
 use borrow.Author.Needs.{needs}
 use Rattle.triangle_real32.proofs.line_sums.Statement.{statement}

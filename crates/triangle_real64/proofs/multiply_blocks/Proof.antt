@@ -23,7 +23,7 @@ block-start-requires : tie.Need-block-start-requires Inv-loop μ-loop
 block-start-requires c κs =
     let p = c .before .before .before .before .before .pre in
     let e = c .before .before .cols .ensures in
-    (omega arith, omega (arith, p .2, e), omega (arith, p .0 .b .cols-le, e))
+    (omega arith, omega (arith, p .2, e), omega (arith, p .0 .b .cols-le, e), omega arith)
 
 multiply-eight-requires : tie.Need-multiply-eight-requires Inv-loop μ-loop
 multiply-eight-requires c κs =

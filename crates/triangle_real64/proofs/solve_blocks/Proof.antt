@@ -24,7 +24,7 @@ block-start-requires : tie.Need-block-start-requires Inv-loop μ-loop
 block-start-requires c κs =
     let p = c .before .before .before .before .before .pre in
     let e = c .before .before .cols .ensures in
-    (omega (arith, p .1 .0, e), omega (arith, p .2, e), omega (arith, p .0 .b .cols-le, e))
+    (omega (arith, p .1 .0, e), omega (arith, p .2, e), omega (arith, p .0 .b .cols-le, e), omega arith)
 
 block-end-requires : tie.Need-block-end-requires Inv-loop μ-loop
 block-end-requires c κs = omega (arith, c .block-start .ensures .2, c .before .before .before .cols .ensures, c .before .before .before .before .before .before .pre .0 .b .cols-le)
