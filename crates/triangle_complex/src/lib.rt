@@ -378,10 +378,22 @@ fn multiply_line(sys: System, times: bool, alpha: Complex, a: &[f64], b: &mut [f
 }
 
 // All of B, line after line.
-fn multiply(sys: System, times: bool, alpha: Complex, a: &[f64], b: &mut [f64])
-    requires { ⌜ Ready sys (complex .count (now a)) (complex .count (now b)) ⌝ }
-    ensures { λ _. ⌜ now (b .exit) ≡ multiply.multiplyAll complex sys (now (a .entry)) (timesIf complex times alpha) (now (b .entry)) ⌝ }
+fn multiply(
+    side: Side,
+    uplo: UpLo,
+    t: Trans,
+    diag: Diag,
+    times: bool,
+    alpha: Complex,
+    a: &[f64],
+    va: View,
+    b: &mut [f64],
+    vb: View,
+)
+    requires { ⌜ Sided side va (complex .count (now a)) vb (complex .count (now b)) ⌝ }
+    ensures { λ _. ⌜ now (b .exit) ≡ multiply.multiplyAll complex (triangles.systemOf side uplo t diag va vb) (now (a .entry)) (timesIf complex times alpha) (now (b .entry)) ⌝ }
 {
+    let sys = system_of(side, uplo, t, diag, va, vb);
     let n = cols(sys.b);
     let mut l = 0;
     while l < n {
@@ -406,8 +418,18 @@ pub fn trmv(
     let answer = check_trmv(quick, va, a.len() / 2, vx, x.len() / 2);
     if passed(answer) {
         let v = column(vx, va.rows);
-        let sys = system_of(Side::Left, uplo, trans, diag, va, v);
-        multiply(sys, false, Complex::ONE, a, x);
+        multiply(
+            Side::Left,
+            uplo,
+            trans,
+            diag,
+            false,
+            Complex::ONE,
+            a,
+            va,
+            x,
+            v,
+        );
     }
     answer
 }
@@ -429,8 +451,7 @@ pub fn trmm(
     let quick = quick_trmm(side, va, a.len() / 2, vb, b.len() / 2);
     let answer = check_trmm(quick, side, va, a.len() / 2, vb, b.len() / 2);
     if passed(answer) {
-        let sys = system_of(side, uplo, trans, diag, va, vb);
-        multiply(sys, true, alpha, a, b);
+        multiply(side, uplo, trans, diag, true, alpha, a, va, b, vb);
     }
     answer
 }

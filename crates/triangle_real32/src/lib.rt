@@ -514,8 +514,8 @@ fn sided(
     requires { ⌜ Sided side va (real32 .count (now a)) vb (real32 .count (now b)) ⌝ }
     ensures { λ r. ⌜ Gives real32 (sidedSolve real32 side uplo t diag (alpha .0) (elem real32 (now (a .entry)) va) vb (now (b .entry))) r (now (b .exit)) ⌝ }
 {
-    scale_right(side, alpha, b, vb);
     let sys = system_of(side, uplo, t, diag, va, vb);
+    scale_right(side, alpha, b, vb);
     solve_lines(sys, is_left(side), alpha, a, b)
 }
 

@@ -514,8 +514,8 @@ fn sided(
     requires { ⌜ Sided side va (real64 .count (now a)) vb (real64 .count (now b)) ⌝ }
     ensures { λ r. ⌜ Gives real64 (sidedSolve real64 side uplo t diag (alpha .0) (elem real64 (now (a .entry)) va) vb (now (b .entry))) r (now (b .exit)) ⌝ }
 {
-    scale_right(side, alpha, b, vb);
     let sys = system_of(side, uplo, t, diag, va, vb);
+    scale_right(side, alpha, b, vb);
     solve_lines(sys, is_left(side), alpha, a, b)
 }
 

@@ -1,45 +1,43 @@
-use Prim.Native.Nat.{ℕ, _≤_, _-_, _/_}
-use mathlib.Core.Path.{_≡_, refl, ap, _∙_}
+use Prim.Native.Nat.{_≤_, _-_, ℕ, _/_}
+use mathlib.Core.Path.{_≡_, refl, _∙_, ap}
+use denote.Ref.{now}
 use native.Mathlib.Omega.{arith}
 use lib.ListN.{length}
 use Rattle.number.specs.Kind.{complex}
+use Rattle.order.specs.declared.System.{System}
 use Rattle.order.specs.Walk.{walk}
 use Rattle.order.specs.Triangles.{timesIf}
-use Rattle.order.specs.Multiply.{multiplyLine}
-use Rattle.order.proofs.Systems.{ready-kept}
+use Rattle.order.specs.Multiply.{multiplyLine, multiplyAll}
 use Rattle.order.proofs.WalkLaws.{walk-start, walk-next, walk-end}
+use Rattle.order.proofs.Systems.{ready-made}
 use Rattle.triangle_complex.proofs.multiply.Statement.{statement}
 use Rattle.triangle_complex.proofs.multiply.Tie as tie
 
 abbrev Inv-loop : tie.InvT-loop
-Inv-loop sys times alpha a b₀ n l₀ b l = (l ≤ n) × (length b ≡ length b₀) × (b ≡ walk l (λ i. multiplyLine complex sys a (timesIf complex times alpha) i (sys .b .rows)) b₀)
+Inv-loop times alpha a b₀ sys n l₀ b l = (l ≤ n) × (length b ≡ length b₀) × (b ≡ walk l (λ i. multiplyLine complex sys a (timesIf complex times alpha) i (sys .b .rows)) b₀)
 
 abbrev μ-loop : tie.MeasureT-loop
-μ-loop sys times alpha a b₀ n l₀ b l = n - l
-
-cols-requires : tie.Need-cols-requires Inv-loop μ-loop
-cols-requires c κs = tt
+μ-loop times alpha a b₀ sys n l₀ b l = n - l
 
 loop-holds : tie.Need-loop-holds Inv-loop μ-loop
 loop-holds c = (omega arith, refl, walk-start _ _)
 
 multiply-line-requires : tie.Need-multiply-line-requires Inv-loop μ-loop
-multiply-line-requires c κs = (ready-kept _ _ _ _ (c .before .before .before .before .before .before .pre) (ap (λ (n : ℕ). n / 2) (c .before .before .loop .inv .1)), omega (arith, c .before .before .before .cols .ensures))
-
-add-l : tie.Need-add-l Inv-loop μ-loop
-add-l c = omega arith
-
-loop-less : tie.Need-loop-less Inv-loop μ-loop
-loop-less c = omega arith
+multiply-line-requires c κs =
+    let g = c .before .before .before .before .before .before .before in
+    let p = g .args in
+    (ready-made (p .uplo) (p .t) (p .diag) _ _ _ _ (p .side) _ _ (g .pre) (c .before .before .before .before .system-of .ensures) (ap (λ (n : ℕ). n / 2) (c .before .before .loop .inv .1)), omega (arith, c .before .before .before .cols .ensures))
 
 loop-again : tie.Need-loop-again Inv-loop μ-loop
-loop-again c = (omega arith, c .before .before .multiply-line .kept .1 .1 .1 .1 .0 ∙ c .before .before .before .before .before .loop .inv .1, walk-next _ _ _ _ _ (c .before .before .before .before .before .loop .inv .2) (c .before .before .multiply-line .ensures))
-
-same-length : tie.Need-same-length Inv-loop μ-loop
-same-length c = c .before .loop .inv .1
+loop-again c =
+    let i = c .before .before .before .before .before .loop .inv in
+    (omega arith, c .before .before .multiply-line .kept .1 .1 .1 .1 .0 ∙ i .1, walk-next _ _ _ _ _ (i .2) (c .before .before .multiply-line .ensures))
 
 returns : tie.Need-returns Inv-loop μ-loop
-returns c = walk-end _ _ _ _ _ (omega (arith, c .before .before .cols .ensures, c .before .loop .inv .0)) (omega (arith, c .before .before .cols .ensures)) (c .before .loop .inv .2)
+returns c =
+    let p = c .before .before .before .before .before .before .args in
+    walk-end _ _ _ _ _ (omega (arith, c .before .before .cols .ensures, c .before .loop .inv .0)) (omega (arith, c .before .before .cols .ensures)) (c .before .loop .inv .2)
+    ∙ ap (λ (y : System). multiplyAll complex y (now (p .a)) (timesIf complex (p .times) (p .alpha)) (now (p .b))) (c .before .before .before .system-of .ensures)
 
 pub multiply-spec : {M : Type 1} → statement M
 multiply-spec =
@@ -47,11 +45,12 @@ multiply-spec =
     (tie.spec
     Inv-loop
     μ-loop
-    cols-requires
+    (λ c κs. tt)
+    (λ c κs. tt)
     loop-holds
     multiply-line-requires
-    add-l
-    loop-less
+    (λ c. omega arith)
+    (λ c. omega arith)
     loop-again
-    same-length
+    (λ c. c .before .loop .inv .1)
     returns)

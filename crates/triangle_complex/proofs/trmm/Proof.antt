@@ -5,7 +5,6 @@ use Rattle.order.proofs.InOrder.{complex-swaps}
 use Rattle.number.proofs.Commutes.{complex-commutes}
 use Rattle.order.proofs.Judged.{matrix-runs}
 use Rattle.order.proofs.ProductKernels.{trmm-refused, trmm-done}
-use Rattle.order.proofs.Systems.{ready-made}
 use borrow.Author.Needs.{needs}
 use Rattle.triangle_complex.proofs.trmm.Statement.{statement}
 use Rattle.triangle_complex.proofs.trmm.Tie as tie
@@ -19,17 +18,14 @@ check-trmm-requires c κs = c .quick-trmm .ensures
 passed-requires : tie.Need-passed-requires
 passed-requires c κs = search needs
 
-system-of-requires : tie.Need-system-of-requires
-system-of-requires c κs = search needs
-
 multiply-requires : tie.Need-multiply-requires
-multiply-requires c κs = ready-made _ _ _ _ _ _ _ _ _ _ (matrix-runs _ _ _ _ _ _ _ (c .before .before .before .before .check-trmm .ensures) (c .before .before .before .passed .ensures) (c .before .before .if1 .taken)) (c .before .system-of .ensures) refl
+multiply-requires c κs = matrix-runs _ _ _ _ _ _ _ (c .before .before .before .check-trmm .ensures) (c .before .before .passed .ensures) (c .before .if1 .taken)
 
 same-length : tie.Need-same-length
 same-length c = search needs
 
 returns : tie.Need-returns
-returns c = trmm-done complex (complex-laws .slab) complex-swaps complex-commutes _ _ _ _ _ _ _ _ _ (c .before .before .before .before .before .before .before .check-trmm .ensures) (c .before .before .before .before .before .before .passed .ensures) (c .before .before .before .before .before .if1 .taken) _ (c .before .before .before .before .system-of .ensures) _ (c .before .before .multiply .ensures)
+returns c = trmm-done complex (complex-laws .slab) complex-swaps complex-commutes _ _ _ _ _ _ _ _ _ (c .before .before .before .before .before .before .check-trmm .ensures) (c .before .before .before .before .before .passed .ensures) (c .before .before .before .before .if1 .taken) _ refl _ (c .before .before .multiply .ensures)
 
 returns-2 : tie.Need-returns-2
 returns-2 c = trmm-refused complex (complex-laws .slab) complex-swaps complex-commutes _ _ _ _ _ _ _ _ _ (c .before .before .check-trmm .ensures) (c .before .passed .ensures) (c .if1 .left)
@@ -41,7 +37,6 @@ trmm-spec =
     quick-trmm-requires
     check-trmm-requires
     passed-requires
-    system-of-requires
     multiply-requires
     same-length
     returns

@@ -5,7 +5,6 @@ use Rattle.order.proofs.InOrder.{complex-swaps}
 use Rattle.number.proofs.Commutes.{complex-commutes}
 use Rattle.order.proofs.Judged.{vector-passed, vector-runs}
 use Rattle.order.proofs.ProductKernels.{trmv-refused, trmv-done}
-use Rattle.order.proofs.Systems.{ready-made}
 use borrow.Author.Needs.{needs}
 use Rattle.triangle_complex.proofs.trmv.Statement.{statement}
 use Rattle.triangle_complex.proofs.trmv.Tie as tie
@@ -22,19 +21,14 @@ passed-requires c κs = search needs
 column-requires : tie.Need-column-requires
 column-requires c κs = vector-passed _ _ _ _ _ _ (c .before .before .check-trmv .ensures) (c .before .passed .ensures) (c .if1 .taken)
 
-system-of-requires : tie.Need-system-of-requires
-system-of-requires c κs = search needs
-
 multiply-requires : tie.Need-multiply-requires
-multiply-requires c κs =
-    let p = c .before .before .before .before .before .before .before .before .before .args in
-    ready-made (p .uplo) (p .trans) _ _ _ _ _ _ _ _ (vector-runs _ _ _ _ _ _ (c .before .before .before .before .before .check-trmv .ensures) (c .before .before .before .before .passed .ensures) (c .before .before .before .if1 .taken) _ (c .before .before .column .ensures)) (c .before .system-of .ensures) refl
+multiply-requires c κs = vector-runs _ _ _ _ _ _ (c .before .before .before .before .check-trmv .ensures) (c .before .before .before .passed .ensures) (c .before .before .if1 .taken) _ (c .before .column .ensures)
 
 same-length : tie.Need-same-length
 same-length c = search needs
 
 returns : tie.Need-returns
-returns c = trmv-done complex (complex-laws .slab) complex-swaps complex-commutes _ _ _ _ _ _ _ (c .before .before .before .before .before .before .before .before .check-trmv .ensures) (c .before .before .before .before .before .before .before .passed .ensures) (c .before .before .before .before .before .before .if1 .taken) _ (c .before .before .before .before .before .column .ensures) _ (c .before .before .before .before .system-of .ensures) _ (c .before .before .multiply .ensures)
+returns c = trmv-done complex (complex-laws .slab) complex-swaps complex-commutes _ _ _ _ _ _ _ (c .before .before .before .before .before .before .before .check-trmv .ensures) (c .before .before .before .before .before .before .passed .ensures) (c .before .before .before .before .before .if1 .taken) _ (c .before .before .before .before .column .ensures) _ refl _ (c .before .before .multiply .ensures)
 
 returns-2 : tie.Need-returns-2
 returns-2 c = trmv-refused complex (complex-laws .slab) complex-swaps complex-commutes _ _ _ _ _ _ _ (c .before .before .check-trmv .ensures) (c .before .passed .ensures) (c .if1 .left)
@@ -47,7 +41,6 @@ trmv-spec =
     check-trmv-requires
     passed-requires
     column-requires
-    system-of-requires
     multiply-requires
     same-length
     returns

@@ -22,7 +22,7 @@ is-left-requires c κs = search needs
 solve-lines-requires : tie.Need-solve-lines-requires
 solve-lines-requires c κs =
     let p = c .before .before .before .before .before .before .before .before .before .args in
-    ready-made (p .uplo) (p .t) (p .diag) _ _ _ _ (p .side) _ _ (c .before .before .before .before .before .before .before .before .before .pre) (c .before .before .system-of .ensures) (c .before .before .before .before .before .scale-right .kept .1 .1 .0)
+    ready-made (p .uplo) (p .t) (p .diag) _ _ _ _ (p .side) _ _ (c .before .before .before .before .before .before .before .before .before .pre) (c .before .before .before .before .before .before .system-of .ensures) (c .before .before .before .before .scale-right .kept .1 .1 .0)
 
 same-length : tie.Need-same-length
 same-length c = search needs
@@ -30,15 +30,15 @@ same-length c = search needs
 returns : tie.Need-returns
 returns c =
     let p = c .before .before .before .before .before .before .before .before .before .before .before .before .args in
-    sided-gives real32 _ _ _ _ _ _ _ _ _ _ _ _ (c .before .before .before .before .before .before .before .before .scale-right .ensures) (c .before .before .before .before .is-left .ensures)
-    (solved-gives real32 (real-commutes binary32) (p .uplo) (p .t) (p .diag) _ _ _ _ _ _ _ (real32-laws .slab) (real-swaps binary32) (p .side) _ (c .before .before .before .before .before .system-of .ensures) (c .before .before .before .before .before .before .before .before .before .before .before .before .pre .distinct) (c .before .before .solve-lines .ensures))
+    sided-gives real32 _ _ _ _ _ _ _ _ _ _ _ _ (c .before .before .before .before .before .before .before .scale-right .ensures) (c .before .before .before .before .is-left .ensures)
+    (solved-gives real32 (real-commutes binary32) (p .uplo) (p .t) (p .diag) _ _ _ _ _ _ _ (real32-laws .slab) (real-swaps binary32) (p .side) _ (c .before .before .before .before .before .before .before .before .before .system-of .ensures) (c .before .before .before .before .before .before .before .before .before .before .before .before .pre .distinct) (c .before .before .solve-lines .ensures))
 
 pub sided-spec : {M : Type 1} → statement M
 sided-spec =
     tie.close
     (tie.spec
-    scale-right-requires
     system-of-requires
+    scale-right-requires
     is-left-requires
     solve-lines-requires
     same-length
