@@ -1,4 +1,5 @@
-# Of the tables of several runs the table of their medians, cell by cell; other lines are those of the first run.
+# Of the tables of several runs the table of their medians, cell by cell: of ratios, which have a point, with two decimals,
+# of nanoseconds with none. Cells without a number and other lines are those of the first run.
 function median(row, column,    r, s, low, kept, v) {
     for (r = 1; r <= runs; r++) v[r] = value[row, column, r]
     for (r = 1; r <= runs; r++) {
@@ -20,7 +21,7 @@ END {
         split(line[i], cell, "|")
         row = "|" cell[2] "|" cell[3] "|"
         for (k = 4; k < cells[i]; k++) {
-            form = k < cells[i] - 2 ? " %.2f |" : " %.0f |"
+            form = cell[k] ~ /\./ ? " %.2f |" : " %.0f |"
             row = row (cell[k] ~ /[0-9]/ ? sprintf(form, median(i, k)) : cell[k] "|")
         }
         print row

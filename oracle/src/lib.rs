@@ -14,6 +14,8 @@ pub mod bench;
 pub mod call;
 pub mod capi;
 #[cfg(reference)]
+pub mod cblas;
+#[cfg(reference)]
 pub mod compare;
 pub mod corners;
 #[cfg(reference)]
