@@ -26,25 +26,6 @@ module _ (K : Kind) (x : K .Elem) (f : ℕ → K .Elem) (from : ℕ) where
   unfolding minusTerms
   minus-next n y z w h g e = rw add-one (e ∙ (λ i. K .sub (h i) (g i)))
 
-  -- a loop that is left at p has subtracted n terms
-  pub minus-end : (p n : ℕ) (y : K .Elem) → p ≤ n → n ≤ p → y ≡ minusTerms K x f from p → y ≡ minusTerms K x f from n
-  minus-end p n y h g e =
-      let q : p ≡ n = omega arith in
-      subst (λ (k : ℕ). y ≡ minusTerms K x f from k) q e
-
-  -- two terms in a round, and the last one where their number is odd
-  pub minus-two : (i : ℕ) (y z w : K .Elem) → y ≡ minusTerms K x f from (2 * i) → z ≡ K .sub y (f (from + 2 * i)) → w ≡ K .sub z (f (from + (2 * i + 1))) → w ≡ minusTerms K x f from (2 * (i + 1))
-  minus-two i y z w h g e =
-      let one = minus-next (2 * i) y (f (from + 2 * i)) z h refl g in
-      let two = minus-next (2 * i + 1) z (f (from + (2 * i + 1))) w one refl e in
-      subst (λ (k : ℕ). w ≡ minusTerms K x f from k) (twice i) two
-    where
-      twice : (i : ℕ) → 2 * i + 1 + 1 ≡ 2 * (i + 1)
-      twice i = omega arith
-
-  pub minus-odd : (i n : ℕ) (y w : K .Elem) → 2 * i + 1 ≡ n → y ≡ minusTerms K x f from (2 * i) → w ≡ K .sub y (f (from + 2 * i)) → w ≡ minusTerms K x f from n
-  minus-odd i n y w o e g = subst (λ (j : ℕ). w ≡ minusTerms K x f from j) o (minus-next (2 * i) y (f (from + 2 * i)) w e refl g)
-
 -- what is taken off agrees
 pub minus-cong : (K : Kind) (x y : K .Elem) (f g : ℕ → K .Elem) (from n : ℕ) → x ≡ y → ((i : ℕ) → i < n → f (from + i) ≡ g (from + i)) → minusTerms K x f from n ≡ minusTerms K y g from n
 unfolding minusTerms

@@ -1,13 +1,11 @@
 -- A loop over the target's elements is the fold over them: its rows, the columns of a row that are written, and a target of one column.
-use Prim.Native.Nat.{ℕ, _+_, _*_, _≤_, _<_}
+use Prim.Native.Nat.{ℕ, _≤_}
 use mathlib.Core.List.{List}
-use mathlib.Core.Path.{_≡_, refl, sym, ap, subst, _∙_}
-use native.Mathlib.Omega.{arith}
+use mathlib.Core.Path.{_≡_, refl, ap, _∙_}
 use Rattle.number.specs.Kind.{Kind}
 use Rattle.view.specs.declared.View.{View}
 use Rattle.view.specs.Place.{index}
 use Rattle.slab.specs.Update.{Mask, Change, Columns, span, updateRow, replaced}
-use Rattle.slab.proofs.LoopLaws.{span-after, span-same}
 use Rattle.slab.proofs.Columns.{columns-last}
 pub use Rattle.slab.proofs.Columns.{row-columns}
 

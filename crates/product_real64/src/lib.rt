@@ -123,7 +123,7 @@ fn entry(
     settle(plan.target, alpha, beta, c, i, j, sum);
 }
 
-// The sums of elements (i, j) to (i, j + 7), with the terms from `from` to before `end` added, where the columns of the right factor lie side by side: the compiler then takes two at a time.
+// The sums of elements (i, j) to (i, j + 7), with the terms from `from` to before `end` added, where the columns of the right factor lie side by side: the compiler then takes several at once.
 fn add_beside(
     f: Factors,
     a: &[f64],
@@ -171,7 +171,7 @@ fn add_apart(
     totals
 }
 
-// The same.
+// The same, chosen by how they lie.
 fn add_eight(
     f: Factors,
     a: &[f64],

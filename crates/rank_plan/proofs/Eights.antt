@@ -10,7 +10,7 @@ use Rattle.number.proofs.Literals.{zero-literal}
 use Rattle.view.specs.declared.View.{View}
 use Rattle.view.specs.Triangle.{endCol}
 use Rattle.slab.specs.Elem.{elem, Within}
-use Rattle.slab.specs.Eight.{Eight, Block}
+use Rattle.slab.specs.Eight.{Eight}
 use Rattle.slab.specs.Update.{Change, span, replaced}
 use Rattle.slab.proofs.EightLaws.{eight-of}
 use Rattle.slab.proofs.LoopLaws.{span-end, span-same}

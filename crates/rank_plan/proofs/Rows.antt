@@ -1,5 +1,5 @@
 -- A loop over the columns of a row that are in the named triangle is the fold over the row: the fold skips the others.
-use Prim.Native.Nat.{ℕ, _+_, _≤_, _<_}
+use Prim.Native.Nat.{ℕ, _≤_, _<_}
 use mathlib.Core.List.{List}
 use mathlib.Core.Path.{_≡_, refl}
 use native.Mathlib.Omega.{arith}

@@ -1,5 +1,5 @@
 -- What the code asks of its caller: that it reads and writes inside the slabs, of la, lb and lc elements.
-use Prim.Native.Nat.{ℕ, _+_, _≤_, _<_}
+use Prim.Native.Nat.{ℕ, _<_}
 use mathlib.Core.Path.{_≡_}
 use Rattle.view.specs.declared.View.{View}
 use Rattle.view.specs.Steps.{Accepted}

@@ -1,5 +1,5 @@
 -- Column after column of the block is settled (slab: span).
-use Prim.Native.Nat.{ℕ, _≤_, _+_, _-_, _/_}
+use Prim.Native.Nat.{ℕ, _≤_, _-_, _/_}
 use mathlib.Core.Path.{_≡_, refl, ap, _∙_}
 use native.Mathlib.Omega.{arith}
 use lib.ListN.{length}
@@ -10,7 +10,6 @@ use Rattle.slab.proofs.LoopLaws.{span-start, span-next, span-end}
 use Rattle.blas.specs.Matrix.{accumulate}
 use Rattle.product_plan.proofs.Rows.{entry-put}
 use Rattle.product_plan.proofs.Ready.{accepted-kept}
-use denote.Ref.{now}
 use Rattle.product_complex.proofs.settle_four.Statement.{statement}
 use Rattle.product_complex.proofs.settle_four.Tie as tie
 

@@ -1,6 +1,6 @@
 -- Each term goes into the eight sums, from places side by side (Eights).
 use Prim.Native.Nat.{_≤_, _+_, _-_}
-use mathlib.Core.Path.{_≡_, refl, sym}
+use mathlib.Core.Path.{refl}
 use native.Mathlib.Omega.{arith}
 use lib.Ieee.{binary32}
 use denote.Ref.{now}

@@ -1,6 +1,5 @@
 -- Eight sums, and part of the eight elements settled with them (Eights: block-settled).
 use native.Mathlib.Omega.{arith}
-use lib.Ieee.{binary32}
 use denote.Ref.{now}
 use borrow.Author.Needs.{needs}
 use Rattle.number.specs.Kind.{real32}

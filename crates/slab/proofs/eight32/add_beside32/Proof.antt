@@ -1,6 +1,6 @@
 -- Each sum in its turn (EightLaws).
 use Prim.Native.Nat.{_+_, _-_}
-use mathlib.Core.Path.{_≡_, ap, _∙_}
+use mathlib.Core.Path.{ap, _∙_}
 use native.Mathlib.Omega.{arith}
 use lib.Ieee.{binary32}
 use borrow.Kind.Array.{good-length, eFloat}

@@ -1,12 +1,12 @@
 -- Each sum in its turn (EightLaws).
 use Prim.Native.Nat.{_+_, _-_}
-use mathlib.Core.Path.{_≡_, ap, _∙_}
+use mathlib.Core.Path.{ap, _∙_}
 use native.Mathlib.Omega.{arith}
 use lib.Ieee.{binary32}
 use borrow.Kind.Array.{good-length, eFloat}
 use Rattle.number.specs.Kind.{real32}
 use Rattle.number.proofs.SlabLaws.{real-slab}
-use Rattle.slab.specs.Elem.{elem, Within}
+use Rattle.slab.specs.Elem.{elem}
 use Rattle.slab.proofs.EightLaws.{Part, part-start, part-next, part-end}
 use Rattle.slab.proofs.eight32.sub_eight32.Statement.{statement}
 use Rattle.slab.proofs.eight32.sub_eight32.Tie as tie

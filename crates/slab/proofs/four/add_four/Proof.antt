@@ -1,6 +1,6 @@
 -- Each sum in its turn (EightLaws).
 use Prim.Native.Nat.{ℕ, _+_, _-_, _/_}
-use mathlib.Core.Path.{_≡_, ap, _∙_}
+use mathlib.Core.Path.{ap, _∙_}
 use native.Mathlib.Omega.{arith}
 use lib.Ieee.{binary64}
 use borrow.Kind.Array.{good-length, eFloat}
