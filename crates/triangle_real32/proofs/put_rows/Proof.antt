@@ -36,6 +36,9 @@ loop-again c =
     let l = c .before .before .before .before .before .before .before .loop in
     (omega arith, c .before .before .put32 .kept .0 ∙ l .inv .1, walk-next _ _ _ _ _ (l .inv .2) (rw (c .before .before .before .before .before .in-order .ensures .0) at (rw (c .before .before .before .place .ensures) at (c .before .before .put32 .ensures))))
 
+returns : tie.Need-returns Inv-loop μ-loop
+returns c = walk-end _ _ _ _ _ (c .before .loop .inv .0) (omega arith) (c .before .loop .inv .2)
+
 pub put-rows-spec : {M : Type 1} → statement M
 put-rows-spec =
     tie.close
@@ -55,4 +58,4 @@ put-rows-spec =
     (λ c. omega arith)
     loop-again
     (λ c. c .before .loop .inv .1)
-    (λ c. walk-end _ _ _ _ _ (c .before .loop .inv .0) (omega arith) (c .before .loop .inv .2)))
+    returns)

@@ -18,7 +18,7 @@ row-sums-requires c κs = search needs
 put-rows-requires : tie.Need-put-rows-requires
 put-rows-requires c κs =
     let p = c .before .before .before .before .before .before .before .before .before .pre in
-    (unknown-shown _ _ _ (p .0 .ready) _ _ (omega (arith, c .before .before .before .before .eight-from .ensures .1, c .before .before .before .before .before .rows .ensures)) (omega (arith, p .0 .one)), p .1)
+    (unknown-shown _ _ _ (p .0 .ready) _ _ (omega (arith, c .before .before .before .before .eight-from .ensures .1, c .before .before .before .before .before .rows .ensures)) (omega (arith, p .0 .one)), omega (arith, p .1))
 
 same-length : tie.Need-same-length
 same-length c = search needs
