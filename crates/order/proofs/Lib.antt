@@ -6,6 +6,7 @@ pub mod Judged
 pub mod Runs
 pub mod LineSums
 pub mod Lines
+pub mod Rows
 pub mod Solves
 pub mod SolveKernels
 pub mod Multiplies

@@ -23,7 +23,7 @@ use Rattle.blas.specs.Triangular.{opUpper, inOp, triangular}
 use Rattle.blas.specs.Substitution.{unknown, lastFirst}
 use Rattle.order.specs.declared.System.{System}
 use Rattle.order.specs.Triangles.{systemOf, coefficient}
-use Rattle.order.specs.Multiply.{ownDiag, own, lineTerm, lineSum}
+use Rattle.order.specs.Multiply.{ownDiag, own, lineTerm, ownFirst, ownLast, lineSum}
 use Rattle.number.proofs.Commutes.{Commutes}
 use Rattle.order.proofs.Systems.{coefficient-is, lines-elem}
 
@@ -153,6 +153,29 @@ module _ (K : Kind) (C : Commutes K) (uplo : UpLo) (t : Trans) (diag : Diag) (va
 
 -- ---- as the engine meets it: what is read, the own term, and the run behind or before it
 
+module _ (K : Kind) (y : System) (a s : List (K .Cell)) (q l : ℕ) where
+  pub line-behind : (m : ℕ) (r : K .Elem) → y .last ≡ true → m ≡ y .b .rows → r ≡ ownFirst K y a s q l (m - 1 - q) → r ≡ lineSum K y a s q l
+  unfolding lineSum
+  line-behind m r h counted e =
+      let n : m - 1 - q ≡ y .b .rows - suc q = omega arith in
+      e ∙ ap (ownFirst K y a s q l) n ∙ sym (ap (λ (b : Bool). cond b (ownFirst K y a s q l (y .b .rows - suc q)) (ownLast K y a s q l (K .zero) 0 q)) h)
+
+  pub line-before : (z : K .Elem) (n : ℕ) (r : K .Elem) → y .last ≡ false → z ≡ K .zero → n ≡ q → r ≡ ownLast K y a s q l z 0 n → r ≡ lineSum K y a s q l
+  unfolding lineSum
+  line-before z n r h begun all e =
+      e
+      ∙ (λ i. ownLast K y a s q l (begun i) 0 (all i))
+      ∙ sym (ap (λ (b : Bool). cond b (ownFirst K y a s q l (y .b .rows - suc q)) (ownLast K y a s q l (K .zero) 0 q)) h)
+
+  -- each by parts
+  pub own-first-is : (n : ℕ) (z o x r : K .Elem) → z ≡ K .zero → o ≡ own K y a s q l → x ≡ K .add z o → r ≡ plusTerms K x (lineTerm K y a s q l) (q + 1) n → r ≡ ownFirst K y a s q l n
+  own-first-is n z o x r begun itself began e =
+      let f : q + 1 ≡ suc q = omega arith in
+      e ∙ (λ i. plusTerms K ((began ∙ (λ j. K .add (begun j) (itself j))) i) (lineTerm K y a s q l) (f i) n)
+
+  pub own-last-is : (from n : ℕ) (x o sum r : K .Elem) → sum ≡ plusTerms K x (lineTerm K y a s q l) from n → o ≡ own K y a s q l → r ≡ K .add sum o → r ≡ ownLast K y a s q l x from n
+  own-last-is from n x o sum r summed itself e = e ∙ (λ i. K .add (summed i) (itself i))
+
 module _ (K : Kind) (y : System) (a s : List (K .Cell)) (q l : ℕ) (c x o z : K .Elem) (weighed : c ≡ ownDiag K (y .diag) (coefficient K y a q q))
     (read : x ≡ elem K s (y .b) q l) (brought : o ≡ K .mul c x) (begun : z ≡ K .zero) where
   own-term : o ≡ own K y a s q l
@@ -160,20 +183,10 @@ module _ (K : Kind) (y : System) (a s : List (K .Cell)) (q l : ℕ) (c x o z : K
 
   pub sum-behind : (m : ℕ) (first r : K .Elem) → y .last ≡ true → m ≡ y .b .rows → first ≡ K .add z o
       → r ≡ plusTerms K first (lineTerm K y a s q l) (q + 1) (m - 1 - q) → r ≡ lineSum K y a s q l
-  unfolding lineSum
-  sum-behind m first r h counted began e =
-      let f : q + 1 ≡ suc q = omega arith in
-      let n : m - 1 - q ≡ y .b .rows - suc q = omega arith in
-      e
-      ∙ (λ i. plusTerms K ((began ∙ (λ j. K .add (begun j) (own-term j))) i) (lineTerm K y a s q l) (f i) (n i))
-      ∙ sym (ap (λ (b : Bool). cond b (plusTerms K (K .add (K .zero) (own K y a s q l)) (lineTerm K y a s q l) (suc q) (y .b .rows - suc q)) (K .add (plusTerms K (K .zero) (lineTerm K y a s q l) 0 q) (own K y a s q l))) h)
+  sum-behind m first r h counted began e = line-behind K y a s q l m r h counted (own-first-is K y a s q l (m - 1 - q) z o first r begun own-term began e)
 
   pub sum-before : (sum r : K .Elem) → y .last ≡ false → sum ≡ plusTerms K z (lineTerm K y a s q l) 0 q → r ≡ K .add sum o → r ≡ lineSum K y a s q l
-  unfolding lineSum
-  sum-before sum r h summed e =
-      e
-      ∙ (λ i. K .add ((summed ∙ ap (λ (w : K .Elem). plusTerms K w (lineTerm K y a s q l) 0 q) begun) i) (own-term i))
-      ∙ sym (ap (λ (b : Bool). cond b (plusTerms K (K .add (K .zero) (own K y a s q l)) (lineTerm K y a s q l) (suc q) (y .b .rows - suc q)) (K .add (plusTerms K (K .zero) (lineTerm K y a s q l) 0 q) (own K y a s q l))) h)
+  sum-before sum r h summed e = line-before K y a s q l z q r h begun refl (own-last-is K y a s q l 0 q z o sum r summed own-term e)
 
 -- of eight lines, with eight zeros to begin from
 module _ (K : Kind) (y : System) (a s : List (K .Cell)) (q l : ℕ) (c z : K .Elem) (zs rs : List (K .Cell)) (weighed : c ≡ ownDiag K (y .diag) (coefficient K y a q q))

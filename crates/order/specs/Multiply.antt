@@ -26,12 +26,16 @@ module _ (K : Kind) (y : System) (a : List (K .Cell)) where
   abbrev pub own : List (K .Cell) → ℕ → ℕ → K .Elem
   own s q l = K .mul (ownDiag K (y .diag) (coefficient K y a q q)) (elem K s (y .b) q l)
 
+  -- its own term and n behind it; and x, n terms before it and its own
+  abbrev pub ownFirst : List (K .Cell) → ℕ → ℕ → ℕ → K .Elem
+  ownFirst s q l n = plusTerms K (K .add (K .zero) (own s q l)) (lineTerm s q l) (suc q) n
+
+  abbrev pub ownLast : List (K .Cell) → ℕ → ℕ → K .Elem → ℕ → ℕ → K .Elem
+  ownLast s q l x from n = K .add (plusTerms K x (lineTerm s q l) from n) (own s q l)
+
   -- element q of line l of the product: its own term before those behind it, or after those before it
   unfoldable pub lineSum : List (K .Cell) → ℕ → ℕ → K .Elem
-  lineSum s q l =
-      cond (y .last)
-      (plusTerms K (K .add (K .zero) (own s q l)) (lineTerm s q l) (suc q) (y .b .rows - suc q))
-      (K .add (plusTerms K (K .zero) (lineTerm s q l) 0 q) (own s q l))
+  lineSum s q l = cond (y .last) (ownFirst s q l (y .b .rows - suc q)) (ownLast s q l (K .zero) 0 q)
 
   module _ (begin : K .Elem → K .Elem) where
     -- the element of line l that is multiplied after k others: against solving order

@@ -1,6 +1,6 @@
 -- What the triangular engine asks of its caller: that what it reads and writes is inside the slabs, of la and lb elements, and that what it
 -- writes lies apart.
-use Prim.Native.Nat.{ℕ, _<_}
+use Prim.Native.Nat.{ℕ, _+_, _≤_, _<_}
 use mathlib.Core.Path.{_≡_}
 use Rattle.view.specs.declared.View.{View}
 use Rattle.view.specs.declared.Side.{Side}
@@ -25,6 +25,12 @@ pub record ReadyAt (y : System) (la lb q l : ℕ) : Type 0 where
   pub ready : Ready y la lb
   pub unknown : q < y .b .rows
   pub line : l < y .b .cols
+
+-- the eight unknowns from q on, or those that come after q others, of one line
+pub record RowsReady (y : System) (la lb q : ℕ) : Type 0 where
+  pub ready : Ready y la lb
+  pub one : y .b .cols ≡ 1
+  pub room : q + 8 ≤ y .b .rows
 
 -- A is square, of the order that B's side has, and B's elements lie apart from each other
 pub record Sided (side : Side) (va : View) (la : ℕ) (vb : View) (lb : ℕ) : Type 0 where

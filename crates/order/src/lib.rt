@@ -7,6 +7,7 @@ ghost use Rattle.blas.specs.Triangular as triangular;
 ghost use Rattle.blas.specs.Substitution as substitution;
 ghost use Rattle.order.specs.Triangles.{isLeft, linesView, systemOf};
 ghost use Rattle.order.specs.Solve as solve;
+ghost use Rattle.order.specs.Eights.{eightFrom};
 use view::Answer;
 use view::Diag;
 use view::Side;
@@ -93,6 +94,14 @@ pub fn least_solved(last: bool, m: usize, k: usize) -> usize
     ensures { λ r. ⌜ (r ≡ substitution.leastSolved last m k) × (r + k ≤ m) ⌝ }
 {
     if last { m - k } else { 0 }
+}
+
+// Of m unknowns the least of the eight that come after k others.
+pub fn eight_from(last: bool, m: usize, k: usize) -> usize
+    requires { ⌜ k + 8 ≤ m ⌝ }
+    ensures { λ r. ⌜ (r ≡ eightFrom last m k) × (r + 8 ≤ m) ⌝ }
+{
+    if last { m - 8 - k } else { k }
 }
 
 // The view whose columns are the lines.

@@ -19,10 +19,10 @@ ghost use Rattle.blas.specs.Trmv;
 ghost use Rattle.order.specs.Walk.{walk};
 ghost use Rattle.order.specs.Triangles as triangles;
 ghost use Rattle.order.specs.Triangles.{timesIf};
-ghost use Rattle.order.specs.Eights.{putEight};
+ghost use Rattle.order.specs.Eights.{putEight, putRows};
 ghost use Rattle.order.specs.Solve as solve;
 ghost use Rattle.order.specs.Multiply as multiply;
-ghost use Rattle.order.specs.Ready.{Pivots, Ready, ReadyAt, Sided};
+ghost use Rattle.order.specs.Ready.{Pivots, Ready, ReadyAt, RowsReady, Sided};
 use judge::check_trmm;
 use judge::check_trmv;
 use judge::check_trsm;
@@ -31,6 +31,7 @@ use judge::quick_trmm;
 use judge::quick_trmv;
 use number::Real64;
 use order::System;
+use order::eight_from;
 use order::in_order;
 use order::is_left;
 use order::least_solved;
@@ -55,6 +56,7 @@ use view::column;
 use view::passed;
 use view::place;
 use view::rows;
+use view::transposed;
 
 // Element (i, j) of a view: a real number is its own conjugate.
 fn at(conjugated: bool, s: &[f64], v: View, i: usize, j: usize) -> Real64
@@ -530,22 +532,45 @@ fn own_weight(diag: Diag, conjugated: bool, a: &[f64], va: View, q: usize) -> Re
     }
 }
 
+// What element q of line l brings into itself.
+fn own_term(sys: System, a: &[f64], b: &[f64], q: usize, l: usize) -> Real64
+    requires { ⌜ ReadyAt sys (real64 .count (now a)) (real64 .count (now b)) q l ⌝ }
+    ensures { λ r. ⌜ r .0 ≡ multiply.own real64 sys (now (a .entry)) (now (b .entry)) q l ⌝ }
+{
+    let diag = sys.diag;
+    let c = own_weight(diag, sys.conjugated, a, sys.a, q);
+    c.mul(elem64(b, sys.b, q, l))
+}
+
+// The own term of element q of line l, and the n terms behind it.
+fn own_first(sys: System, a: &[f64], b: &[f64], q: usize, l: usize, n: usize) -> f64
+    requires { ⌜ ReadyAt sys (real64 .count (now a)) (real64 .count (now b)) q l × (q + 1 + n ≤ sys .b .rows) ⌝ }
+    ensures { λ r. ⌜ r ≡ multiply.ownFirst real64 sys (now (a .entry)) (now (b .entry)) q l n ⌝ }
+{
+    let x = Real64::ZERO.add(own_term(sys, a, b, q, l)).0;
+    add_run(sys.conjugated, a, sys.a, b, sys.b, q, l, q + 1, n, x)
+}
+
+// x and the terms of element q of line l from `from` on, the own one after those before it.
+fn own_last(sys: System, a: &[f64], b: &[f64], q: usize, l: usize, from: usize, x: f64) -> f64
+    requires { ⌜ ReadyAt sys (real64 .count (now a)) (real64 .count (now b)) q l × (from ≤ q) ⌝ }
+    ensures { λ r. ⌜ r ≡ multiply.ownLast real64 sys (now (a .entry)) (now (b .entry)) q l x from (q - from) ⌝ }
+{
+    let n = q - from;
+    let sum = add_run(sys.conjugated, a, sys.a, b, sys.b, q, l, from, n, x);
+    Real64(sum).add(own_term(sys, a, b, q, l)).0
+}
+
 // Element q of line l of the product.
 fn line_sum(sys: System, a: &[f64], b: &[f64], q: usize, l: usize) -> f64
     requires { ⌜ ReadyAt sys (real64 .count (now a)) (real64 .count (now b)) q l ⌝ }
     ensures { λ r. ⌜ r ≡ multiply.lineSum real64 sys (now (a .entry)) (now (b .entry)) q l ⌝ }
 {
-    let diag = sys.diag;
-    let c = own_weight(diag, sys.conjugated, a, sys.a, q);
-    let own = c.mul(elem64(b, sys.b, q, l));
     if sys.last {
         let n = rows(sys.b) - 1 - q;
-        let x = Real64::ZERO.add(own).0;
-        add_run(sys.conjugated, a, sys.a, b, sys.b, q, l, q + 1, n, x)
+        own_first(sys, a, b, q, l, n)
     } else {
-        let x = Real64::ZERO.0;
-        let sum = add_run(sys.conjugated, a, sys.a, b, sys.b, q, l, 0, q, x);
-        Real64(sum).add(own).0
+        own_last(sys, a, b, q, l, 0, Real64::ZERO.0)
     }
 }
 
@@ -697,8 +722,8 @@ fn multiply_next(sys: System, a: &[f64], b: &mut [f64], k: usize)
     put64(b, place(sys.b, q, 0), Real64(x));
 }
 
-// All of a vector, in that order.
-fn multiply_vector(sys: System, a: &[f64], b: &mut [f64])
+// All of a vector, in that order, element by element.
+fn vector_plain(sys: System, a: &[f64], b: &mut [f64])
     requires { ⌜ Ready sys (real64 .count (now a)) (real64 .count (now b)) × (sys .b .cols ≡ 1) ⌝ }
     ensures { λ _. ⌜ now (b .exit) ≡ multiply.multiplyAll real64 sys (now (a .entry)) (λ x. x) (now (b .entry)) ⌝ }
 {
@@ -707,6 +732,125 @@ fn multiply_vector(sys: System, a: &[f64], b: &mut [f64])
     while k < m {
         multiply_next(sys, a, b, k);
         k += 1;
+    }
+}
+
+// Eight numbers, each and n terms more of its row, from `from` on: number t of row q + t.
+fn add_rows(
+    sys: System,
+    a: &[f64],
+    b: &[f64],
+    q: usize,
+    from: usize,
+    n: usize,
+    xs: [f64; 8],
+) -> [f64; 8]
+    requires { ⌜ RowsReady sys (real64 .count (now a)) (real64 .count (now b)) q × (from + n ≤ sys .b .rows) ⌝ }
+    ensures { λ r. ⌜ Eight real64 r (λ t. plusTerms real64 (real64 .at xs t) (multiply.lineTerm real64 sys (now (a .entry)) (now (b .entry)) (q + t) 0) from n) ⌝ }
+{
+    let v = transposed(sys.a);
+    let mut sums = xs;
+    let end = from + n;
+    let mut p = from;
+    while p < end {
+        let next = add_eight64(elem64(b, sys.b, p, 0), a, v, p, q, sums);
+        sums = next;
+        p += 1;
+    }
+    sums
+}
+
+// Of the eight rows from q on, each its own term and those behind it among the eight.
+fn own_first_eight(sys: System, a: &[f64], b: &[f64], q: usize) -> [f64; 8]
+    requires { ⌜ RowsReady sys (real64 .count (now a)) (real64 .count (now b)) q ⌝ }
+    ensures { λ r. ⌜ Eight real64 r (λ t. multiply.ownFirst real64 sys (now (a .entry)) (now (b .entry)) (q + t) 0 (7 - t)) ⌝ }
+{
+    let mut next = [0.0; 8];
+    let mut t = 0;
+    while t < 8 {
+        next[t] = own_first(sys, a, b, q + t, 0, 7 - t);
+        t += 1;
+    }
+    next
+}
+
+// Of the eight rows from q on, each its number, the terms before its own among the eight, and its own.
+fn own_last_eight(sys: System, a: &[f64], b: &[f64], q: usize, xs: [f64; 8]) -> [f64; 8]
+    requires { ⌜ RowsReady sys (real64 .count (now a)) (real64 .count (now b)) q ⌝ }
+    ensures { λ r. ⌜ Eight real64 r (λ t. multiply.ownLast real64 sys (now (a .entry)) (now (b .entry)) (q + t) 0 (real64 .at xs t) q (q + t - q)) ⌝ }
+{
+    let mut next = xs;
+    let mut t = 0;
+    while t < 8 {
+        next[t] = own_last(sys, a, b, q + t, 0, q, next[t]);
+        t += 1;
+    }
+    next
+}
+
+// Each of the eight elements from q on of the product.
+fn row_sums(sys: System, a: &[f64], b: &[f64], q: usize) -> [f64; 8]
+    requires { ⌜ RowsReady sys (real64 .count (now a)) (real64 .count (now b)) q ⌝ }
+    ensures { λ r. ⌜ Eight real64 r (λ t. multiply.lineSum real64 sys (now (a .entry)) (now (b .entry)) (q + t) 0) ⌝ }
+{
+    if sys.last {
+        let n = rows(sys.b) - 8 - q;
+        let xs = own_first_eight(sys, a, b, q);
+        add_rows(sys, a, b, q, q + 8, n, xs)
+    } else {
+        let zeros = [0.0; 8];
+        let xs = add_rows(sys, a, b, q, 0, q, zeros);
+        own_last_eight(sys, a, b, q, xs)
+    }
+}
+
+// Eight numbers put into the rows of a column from q on: those that come after `first` others, the last first or the first.
+fn put_rows(last: bool, b: &mut [f64], v: View, q: usize, first: usize, xs: [f64; 8])
+    requires { ⌜ Within v (real64 .count (now b)) (q + 7) 0 × (first ≤ 8) ⌝ }
+    ensures { λ _. ⌜ now (b .exit) ≡ putRows real64 last v q first xs (8 - first) (now (b .entry)) ⌝ }
+{
+    let left = 8 - first;
+    let mut i = 0;
+    while i < left {
+        let t = in_order(last, 8, first + i);
+        put64(b, place(v, q + t, 0), Real64(xs[t]));
+        i += 1;
+    }
+}
+
+// The last of eight elements of a vector, multiplied: of those that come after k others, the ones after k + first others.
+fn vector_block(sys: System, a: &[f64], b: &mut [f64], k: usize, first: usize)
+    requires { ⌜ RowsReady sys (real64 .count (now a)) (real64 .count (now b)) k × (first ≤ 8) ⌝ }
+    ensures { λ _. ⌜ now (b .exit) ≡ walk (8 - first) (λ i. multiply.multiplyOne real64 sys (now (a .entry)) (λ x. x) (k + (first + i)) 0) (now (b .entry)) ⌝ }
+{
+    let q = eight_from(!sys.last, rows(sys.b), k);
+    let xs = row_sums(sys, a, b, q);
+    put_rows(!sys.last, b, sys.b, q, first, xs);
+}
+
+// All of a vector, eight elements at a time.
+fn vector_wide(sys: System, a: &[f64], b: &mut [f64])
+    requires { ⌜ Ready sys (real64 .count (now a)) (real64 .count (now b)) × (sys .b .cols ≡ 1) × (8 ≤ sys .b .rows) ⌝ }
+    ensures { λ _. ⌜ now (b .exit) ≡ multiply.multiplyAll real64 sys (now (a .entry)) (λ x. x) (now (b .entry)) ⌝ }
+{
+    let m = rows(sys.b);
+    let mut k = 0;
+    while k < m {
+        let from = block_start(8, k, m);
+        vector_block(sys, a, b, from, k - from);
+        k = from + 8;
+    }
+}
+
+// All of a vector, eight elements at a time where there are eight.
+fn multiply_vector(sys: System, a: &[f64], b: &mut [f64])
+    requires { ⌜ Ready sys (real64 .count (now a)) (real64 .count (now b)) × (sys .b .cols ≡ 1) ⌝ }
+    ensures { λ _. ⌜ now (b .exit) ≡ multiply.multiplyAll real64 sys (now (a .entry)) (λ x. x) (now (b .entry)) ⌝ }
+{
+    if 8 <= rows(sys.b) {
+        vector_wide(sys, a, b);
+    } else {
+        vector_plain(sys, a, b);
     }
 }
 

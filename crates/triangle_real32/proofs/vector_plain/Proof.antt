@@ -2,17 +2,17 @@ use Prim.Native.Nat.{_≤_, _-_}
 use mathlib.Core.Path.{_≡_, refl, _∙_}
 use native.Mathlib.Omega.{arith}
 use lib.ListN.{length}
-use Rattle.number.specs.Kind.{real64}
+use Rattle.number.specs.Kind.{real32}
 use Rattle.order.specs.Walk.{walk}
 use Rattle.order.specs.Multiply.{multiplyOne}
 use Rattle.order.proofs.Systems.{ready-for}
 use Rattle.order.proofs.Multiplies.{only-line}
 use Rattle.order.proofs.WalkLaws.{walk-start, walk-next, walk-end}
-use Rattle.triangle_real64.proofs.multiply_vector.Statement.{statement}
-use Rattle.triangle_real64.proofs.multiply_vector.Tie as tie
+use Rattle.triangle_real32.proofs.vector_plain.Statement.{statement}
+use Rattle.triangle_real32.proofs.vector_plain.Tie as tie
 
 abbrev Inv-loop : tie.InvT-loop
-Inv-loop sys a b₀ m k₀ b k = (k ≤ m) × (length b ≡ length b₀) × (b ≡ walk k (λ i. multiplyOne real64 sys a (λ x. x) i 0) b₀)
+Inv-loop sys a b₀ m k₀ b k = (k ≤ m) × (length b ≡ length b₀) × (b ≡ walk k (λ i. multiplyOne real32 sys a (λ x. x) i 0) b₀)
 
 abbrev μ-loop : tie.MeasureT-loop
 μ-loop sys a b₀ m k₀ b k = m - k
@@ -41,10 +41,10 @@ same-length : tie.Need-same-length Inv-loop μ-loop
 same-length c = c .before .loop .inv .1
 
 returns : tie.Need-returns Inv-loop μ-loop
-returns c = only-line real64 _ _ _ _ _ _ (c .before .before .before .before .before .pre .1) (c .before .before .rows .ensures) (walk-end _ _ _ _ _ (c .before .loop .inv .0) (omega arith) (c .before .loop .inv .2))
+returns c = only-line real32 _ _ _ _ _ _ (c .before .before .before .before .before .pre .1) (c .before .before .rows .ensures) (walk-end _ _ _ _ _ (c .before .loop .inv .0) (omega arith) (c .before .loop .inv .2))
 
-pub multiply-vector-spec : {M : Type 1} → statement M
-multiply-vector-spec =
+pub vector-plain-spec : {M : Type 1} → statement M
+vector-plain-spec =
     tie.close
     (tie.spec
     Inv-loop

@@ -1,0 +1,20 @@
+use Rattle.number.specs.Kind.{real64}
+use Rattle.order.proofs.Systems.{weighed}
+use borrow.Author.Needs.{needs}
+use Rattle.triangle_real64.proofs.own_term.Statement.{statement}
+use Rattle.triangle_real64.proofs.own_term.Tie as tie
+
+own-weight-requires : tie.Need-own-weight-requires
+own-weight-requires c κs = search needs
+
+elem64-requires : tie.Need-elem64-requires
+elem64-requires c κs = search needs
+
+pub own-term-spec : {M : Type 1} → statement M
+own-term-spec =
+    tie.close
+    (tie.spec
+    own-weight-requires
+    elem64-requires
+    (λ c κs. tt)
+    (λ c. weighed real64 _ _ _ _ _ (c .before .before .own-weight .ensures) (c .before .elem64 .ensures) (c .mul .ensures)))
