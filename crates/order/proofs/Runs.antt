@@ -3,10 +3,9 @@
 use Prim.Native.Nat.{ℕ, zero, suc, _+_, _-_, _^_, _≤_, _<_}
 use mathlib.Core.Bool.{Bool}
 use mathlib.Core.List.{List}
-use mathlib.Core.Path.{_≡_, refl, ap, sym, subst, _∙_}
+use mathlib.Core.Path.{_≡_, ap, sym, subst, _∙_}
 use native.Mathlib.Omega.{arith}
-use lib.Ieee.{Float, Format}
-use Rattle.number.specs.Kind.{Kind, real}
+use Rattle.number.specs.Kind.{Kind}
 use Rattle.view.specs.declared.View.{View}
 use Rattle.slab.specs.Eight.{Eight}
 use Rattle.slab.specs.Elem.{elem, Within}
