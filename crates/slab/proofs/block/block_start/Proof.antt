@@ -1,0 +1,13 @@
+-- From column j on where w are left, else the last w.
+use native.Mathlib.Omega.{arith}
+use Rattle.slab.proofs.block.block_start.Statement.{statement}
+use Rattle.slab.proofs.block.block_start.Tie as tie
+
+pub block-start-spec : {M : Type 1} → statement M
+block-start-spec =
+    tie.close
+    (tie.spec
+    (λ c. omega arith)
+    (λ c. omega arith)
+    (λ c. (omega arith, omega arith, omega arith))
+    (λ c. (omega arith, omega arith, omega arith)))
