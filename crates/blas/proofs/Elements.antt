@@ -10,8 +10,8 @@ use Rattle.view.specs.declared.View.{View}
 use Rattle.view.specs.declared.Answer.{Answer}
 use Rattle.view.specs.declared.Answer.the-variants.{Done, TooLarge, OutOfBounds, ShapeMismatch, Overlap, Singular}
 use Rattle.view.specs.Refusals.{Fits, overlaps}
-use Rattle.view.specs.PlaceLaws.{fits→index-lt}
-use Rattle.view.specs.OverlapLaws.{no-overlap→index-inj}
+use Rattle.view.proofs.PlaceLaws.{fits→index-lt}
+use Rattle.view.proofs.OverlapLaws.{no-overlap→index-inj}
 use Rattle.slab.specs.Elem.{elem}
 use Rattle.slab.specs.Distinct.{Inside, Distinct}
 use Rattle.slab.specs.Update.{Mask, Change, update}

@@ -8,7 +8,7 @@ use Rattle.view.specs.declared.View.{View}
 use Rattle.view.specs.declared.Trans.{Trans}
 use Rattle.view.specs.declared.Trans.the-variants.{NoTrans, Trans as Transposed, ConjTrans}
 use Rattle.view.specs.Place.{opViewOf, transposedOf, isConj}
-use Rattle.view.specs.TransposeLaws.{transposed-index}
+use Rattle.view.proofs.TransposeLaws.{transposed-index}
 use Rattle.slab.specs.Elem.{elem}
 use Rattle.blas.specs.Matrix.{op}
 

@@ -21,13 +21,13 @@ use Rattle.view.specs.declared.Diag.{Diag}
 use Rattle.view.specs.declared.Side.{Side}
 use Rattle.view.specs.declared.Side.the-variants.{Left, Right}
 use Rattle.view.specs.Any.{any}
-use Rattle.view.specs.AnyLaws.{found, none, and-left, and-right, and-both, is-false, clash}
+use Rattle.view.proofs.AnyLaws.{found, none, and-left, and-right, and-both, is-false, clash}
 use Rattle.view.specs.Checks.{orderOf, trmvShape, trmmShape, trsvCheck, trsmCheck}
-use Rattle.view.specs.JudgeLaws.{judge-passed, trmv-sizes}
+use Rattle.view.proofs.JudgeLaws.{judge-passed, trmv-sizes}
 use Rattle.view.specs.Place.{index}
 use Rattle.view.specs.Refusals.{Fits, overlaps}
 use Rattle.view.specs.Vector.{columnOf}
-use Rattle.view.specs.VectorLaws.{column-fits, column-no-overlap}
+use Rattle.view.proofs.VectorLaws.{column-fits, column-no-overlap}
 use Rattle.slab.specs.Elem.{Lent}
 use Rattle.slab.specs.Distinct.{Inside, Distinct}
 use Rattle.slab.specs.Update.{everywhere}

@@ -11,7 +11,7 @@ use Rattle.view.specs.declared.View.{View}
 use Rattle.view.specs.declared.Side.{Side}
 use Rattle.view.specs.declared.Side.the-variants.{Left, Right}
 use Rattle.view.specs.Checks.{orderOf}
-use Rattle.view.specs.AnyLaws.{none, clash}
+use Rattle.view.proofs.AnyLaws.{none, clash}
 use Rattle.blas.specs.Substitution.{inOrder, leastSolved, turnOf, lineOf, firstAt, minusTerms}
 use Rattle.blas.specs.Solves.{linesOf, minusBefore}
 

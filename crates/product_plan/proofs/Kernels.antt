@@ -18,7 +18,7 @@ use Rattle.view.specs.Triangle.{inTriangle}
 use Rattle.view.specs.Place.{opViewOf, isConj}
 use Rattle.view.specs.Vector.{columnOf}
 use Rattle.view.specs.Checks.{opRows, opCols, vectorOf, gemvCheck, hemvCheck, gemmCheck, symmCheck, hemmCheck, syrkCheck, herkCheck}
-use Rattle.view.specs.JudgeLaws.{judge-passed, gemv-sizes, hemv-sizes}
+use Rattle.view.proofs.JudgeLaws.{judge-passed, gemv-sizes, hemv-sizes}
 use Rattle.slab.specs.Elem.{Lent, elem}
 use Rattle.slab.specs.Update.{Mask, everywhere, update}
 use Rattle.blas.specs.Matrix.{op, dot, hermitian, accumulate}

@@ -14,12 +14,12 @@ use Rattle.view.specs.declared.UpLo.the-variants.{Upper, Lower}
 use Rattle.view.specs.Refusals.{limit}
 use Rattle.view.specs.Steps.{Accepted}
 use Rattle.view.specs.Place.{opViewOf}
-use Rattle.view.specs.TransposeLaws.{transposed-accepted}
+use Rattle.view.proofs.TransposeLaws.{transposed-accepted}
 use Rattle.view.specs.Judge.{arg}
 use Rattle.view.specs.Checks.{opRows, opCols, gemvShape, hemvShape, gemmShape, symmShape, syrkShape}
-use Rattle.view.specs.JudgeLaws.{Passed, gemv-sizes, hemv-sizes, gemm-sizes, symm-sizes, syrk-sizes}
+use Rattle.view.proofs.JudgeLaws.{Passed, gemv-sizes, hemv-sizes, gemm-sizes, symm-sizes, syrk-sizes}
 use Rattle.view.specs.Vector.{columnOf}
-use Rattle.view.specs.VectorLaws.{column-accepted}
+use Rattle.view.proofs.VectorLaws.{column-accepted}
 use Rattle.slab.specs.Elem.{Within}
 use Rattle.blas.specs.Syrk.{syrkLeft, syrkRight}
 use Rattle.blas.specs.Herk.{herkLeft, herkRight}

@@ -12,7 +12,7 @@ use Rattle.view.specs.declared.Trans.{Trans}
 use Rattle.view.specs.declared.UpLo.{UpLo}
 use Rattle.view.specs.Judge.{isDone}
 use Rattle.view.specs.Checks.{vectorOf, opCols, herCheck, her2Check, syr2kCheck, her2kCheck}
-use Rattle.view.specs.JudgeLaws.{judge-passed, trmv-sizes, hemv-sizes}
+use Rattle.view.proofs.JudgeLaws.{judge-passed, trmv-sizes, hemv-sizes}
 use Rattle.view.specs.Triangle.{inTriangle}
 use Rattle.view.specs.Vector.{columnOf}
 use Rattle.slab.specs.Elem.{Lent, elem}

@@ -10,10 +10,10 @@ use Rattle.view.specs.Place.{opViewOf}
 use Rattle.view.specs.Steps.{Accepted}
 use Rattle.view.specs.Judge.{arg}
 use Rattle.view.specs.Checks.{opRows, opCols, trmvShape, hemvShape, syr2kShape}
-use Rattle.view.specs.JudgeLaws.{Passed, Vector, trmv-sizes, hemv-sizes, syr2k-sizes}
-use Rattle.view.specs.TransposeLaws.{op-accepted}
+use Rattle.view.proofs.JudgeLaws.{Passed, Vector, trmv-sizes, hemv-sizes, syr2k-sizes}
+use Rattle.view.proofs.TransposeLaws.{op-accepted}
 use Rattle.view.specs.Vector.{columnOf}
-use Rattle.view.specs.VectorLaws.{column-accepted}
+use Rattle.view.proofs.VectorLaws.{column-accepted}
 use Rattle.rank_plan.specs.declared.plan.Readings.{Readings}
 use Rattle.rank_plan.specs.Plan.{pairedPlan, syrReadings, herReadings}
 use Rattle.rank_plan.specs.Ready.{Sized, One, Two, Paired}

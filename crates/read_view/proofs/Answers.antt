@@ -9,12 +9,12 @@ use Rattle.number.specs.Kind.{Kind}
 use Rattle.view.specs.declared.View.{View}
 use Rattle.view.specs.declared.Answer.{Answer}
 use Rattle.view.specs.declared.Answer.the-variants.{Done, OutOfBounds}
-use Rattle.view.specs.AnyLaws.{clash, and-left, and-right, and-both}
+use Rattle.view.proofs.AnyLaws.{clash, and-left, and-right, and-both}
 use Rattle.view.specs.Place.{index}
-use Rattle.view.specs.PlaceLaws.{fits→index-lt}
+use Rattle.view.proofs.PlaceLaws.{fits→index-lt}
 use Rattle.view.specs.Steps.{Accepted, Shown}
 use Rattle.view.specs.Judge.{isDone, refuse}
-use Rattle.view.specs.JudgeLaws.{judge-passed}
+use Rattle.view.proofs.JudgeLaws.{judge-passed}
 use Rattle.view.specs.Checks.{readCheck}
 use Rattle.slab.specs.Elem.{elem}
 use Rattle.blas.proofs.OutcomeLaws.{done-is, check-done}

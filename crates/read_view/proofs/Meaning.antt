@@ -11,7 +11,7 @@ use Rattle.view.specs.Any.{any}
 use Rattle.view.specs.Refusals.{overlaps}
 use Rattle.view.specs.Steps.{Accepted}
 use Rattle.view.specs.Judge.{arg, isDone}
-use Rattle.view.specs.JudgeLaws.{passed-judge}
+use Rattle.view.proofs.JudgeLaws.{passed-judge}
 use Rattle.view.specs.Checks.{noTarget, readCheck}
 use Rattle.slab.specs.Elem.{elem}
 use Rattle.read_view.specs.Read.{inShape, readAnswer, readAt}

@@ -5,7 +5,7 @@ ghost use mathlib.Core.Path.{_≡_};
 ghost use Rattle.number.specs.Kind.{real64, complex};
 ghost use Rattle.view.specs.Checks.{readCheck};
 ghost use Rattle.read_view.specs.Read.{readAnswer, readOutcome, foundOutcome, foundComplexOutcome};
-use judge::check_read;
+use call_check::check_read;
 use number::Complex;
 use slab::get_complex;
 use slab::get64;

@@ -1,10 +1,10 @@
 // Replays the list of checks: the refusals 1 to 4 of the fifteen routines, by views and lengths alone.
 mod checks;
 
-use list::check_length;
-use list::check_view;
-use list::side;
-use list::trans;
+use recorded_calls::check_length;
+use recorded_calls::check_view;
+use recorded_calls::side;
+use recorded_calls::trans;
 
 fn main() {
     let path = b"check.bin";
@@ -15,10 +15,10 @@ fn main() {
     }
     let mut calls = [0u64; 64];
     let mut agreed = [0u64; 64];
-    let records = list::records(fd);
+    let records = recorded_calls::records(fd);
     replay(fd, records, &mut calls, &mut agreed);
     libc::close(fd);
-    list::report(records, &calls, &agreed);
+    recorded_calls::report(records, &calls, &agreed);
 }
 
 fn replay(fd: i32, records: u64, calls: &mut [u64], agreed: &mut [u64]) {
@@ -31,7 +31,7 @@ fn replay(fd: i32, records: u64, calls: &mut [u64], agreed: &mut [u64]) {
 // Replays the next record, and answers whether there was one.
 fn replay_one(fd: i32, calls: &mut [u64], agreed: &mut [u64]) -> bool {
     let mut space = io::buffer();
-    let n = list::next(fd, &mut space);
+    let n = recorded_calls::next(fd, &mut space);
     if n == 0 {
         return false;
     }
@@ -40,12 +40,12 @@ fn replay_one(fd: i32, calls: &mut [u64], agreed: &mut [u64]) -> bool {
 }
 
 fn judge(body: &[u8], calls: &mut [u64], agreed: &mut [u64]) {
-    list::count(body, agrees(body), calls, agreed);
+    recorded_calls::count(body, agrees(body), calls, agreed);
 }
 
 fn agrees(body: &[u8]) -> bool {
-    if list::check_whole(body) {
-        answer(body) == list::answer(body)
+    if recorded_calls::check_whole(body) {
+        answer(body) == recorded_calls::answer(body)
     } else {
         false
     }
@@ -53,7 +53,7 @@ fn agrees(body: &[u8]) -> bool {
 
 // The number of the answer that the check of the record's routine gives; 255 where there is no such routine.
 fn answer(body: &[u8]) -> u8 {
-    if list::target(body) == 1 {
+    if recorded_calls::target(body) == 1 {
         two_views(body)
     } else {
         three_views(body)
@@ -65,7 +65,7 @@ fn two_views(body: &[u8]) -> u8 {
     let la = check_length(body, 0);
     let b = check_view(body, 1);
     let lb = check_length(body, 1);
-    match list::routine(body) {
+    match recorded_calls::routine(body) {
         2 => view::number(checks::her(a, la, b, lb)),
         4 => view::number(checks::trmv(a, la, b, lb)),
         5 => view::number(checks::trsv(a, la, b, lb)),
@@ -87,7 +87,7 @@ fn three_views(body: &[u8]) -> u8 {
     let t = trans(body, 0);
     let s = side(body, 0);
     let u = trans(body, 1);
-    match list::routine(body) {
+    match recorded_calls::routine(body) {
         0 => view::number(checks::gemv(t, a, la, b, lb, c, lc)),
         1 => view::number(checks::hemv(a, la, b, lb, c, lc)),
         3 => view::number(checks::her2(a, la, b, lb, c, lc)),

@@ -1,26 +1,26 @@
 // Replays a call in f64.
-use list::side;
-use list::trans;
-use list::uplo;
+use recorded_calls::side;
+use recorded_calls::trans;
+use recorded_calls::uplo;
 use number::Real64;
 
 // Whether the call gives the record's answer and the target's slab after the call, and leaves the others.
 pub fn agrees(body: &[u8]) -> bool {
-    let last = list::target(body);
-    let a = list::slab64(body, list::slab(body, 0));
-    let b = list::slab64(body, list::slab(body, 1));
-    let mut c = list::slab64(body, list::slab(body, last));
-    let la = list::length(body, 0);
-    let lb = list::length(body, 1);
-    let lc = list::length(body, last);
+    let last = recorded_calls::target(body);
+    let a = recorded_calls::slab64(body, recorded_calls::slab(body, 0));
+    let b = recorded_calls::slab64(body, recorded_calls::slab(body, 1));
+    let mut c = recorded_calls::slab64(body, recorded_calls::slab(body, last));
+    let la = recorded_calls::length(body, 0);
+    let lb = recorded_calls::length(body, 1);
+    let lc = recorded_calls::length(body, last);
     compare(body, &a[..la], &b[..lb], &mut c[..lc])
 }
 
 fn compare(body: &[u8], a: &[f64], b: &[f64], c: &mut [f64]) -> bool {
-    if call(body, a, b, c) == list::answer(body) {
-        if list::same64(body, list::slab(body, 0), a) {
-            if list::same64(body, list::slab(body, 1), b) {
-                return list::same64(body, list::after(body), c);
+    if call(body, a, b, c) == recorded_calls::answer(body) {
+        if recorded_calls::same64(body, recorded_calls::slab(body, 0), a) {
+            if recorded_calls::same64(body, recorded_calls::slab(body, 1), b) {
+                return recorded_calls::same64(body, recorded_calls::after(body), c);
             }
         }
     }
@@ -28,7 +28,7 @@ fn compare(body: &[u8], a: &[f64], b: &[f64], c: &mut [f64]) -> bool {
 }
 
 fn call(body: &[u8], a: &[f64], b: &[f64], c: &mut [f64]) -> u8 {
-    if list::target(body) == 1 {
+    if recorded_calls::target(body) == 1 {
         two_slabs(body, a, c)
     } else {
         three_slabs(body, a, b, c)
@@ -36,28 +36,28 @@ fn call(body: &[u8], a: &[f64], b: &[f64], c: &mut [f64]) -> u8 {
 }
 
 fn alpha(body: &[u8]) -> Real64 {
-    Real64(list::scalar64(body, 0))
+    Real64(recorded_calls::scalar64(body, 0))
 }
 
 fn beta(body: &[u8]) -> Real64 {
-    Real64(list::scalar64(body, 2))
+    Real64(recorded_calls::scalar64(body, 2))
 }
 
 // The number of the answer; 255 where there is no such routine.
 fn two_slabs(body: &[u8], a: &[f64], c: &mut [f64]) -> u8 {
     let u = uplo(body, 0);
     let t = trans(body, 1);
-    let va = list::view(body, 0);
-    let vc = list::view(body, 1);
-    match list::routine(body) {
+    let va = recorded_calls::view(body, 0);
+    let vc = recorded_calls::view(body, 1);
+    match recorded_calls::routine(body) {
         9 => view::number(product_real64::syrk(u, t, alpha(body), a, va, beta(body), c, vc)),
         10 => view::number(product_real64::herk(
             u,
             t,
-            list::scalar64(body, 0),
+            recorded_calls::scalar64(body, 0),
             a,
             va,
-            list::scalar64(body, 2),
+            recorded_calls::scalar64(body, 2),
             c,
             vc,
         )),
@@ -68,13 +68,13 @@ fn two_slabs(body: &[u8], a: &[f64], c: &mut [f64]) -> u8 {
 fn three_slabs(body: &[u8], a: &[f64], b: &[f64], c: &mut [f64]) -> u8 {
     let p = alpha(body);
     let q = beta(body);
-    let va = list::view(body, 0);
-    let vb = list::view(body, 1);
-    let vc = list::view(body, 2);
+    let va = recorded_calls::view(body, 0);
+    let vb = recorded_calls::view(body, 1);
+    let vc = recorded_calls::view(body, 2);
     let t = trans(body, 0);
     let v = trans(body, 1);
     let s = side(body, 0);
-    match list::routine(body) {
+    match recorded_calls::routine(body) {
         0 => view::number(product_real64::gemv(t, p, a, va, b, vb, q, c, vc)),
         1 => view::number(product_real64::hemv(uplo(body, 0), p, a, va, b, vb, q, c, vc)),
         6 => view::number(product_real64::gemm(t, v, p, a, va, b, vb, q, c, vc)),

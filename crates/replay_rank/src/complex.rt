@@ -1,25 +1,25 @@
 // Replays a call in complex numbers.
-use list::trans;
-use list::uplo;
+use recorded_calls::trans;
+use recorded_calls::uplo;
 use number::Complex;
 
 // Whether the call gives the record's answer and the target's slab after the call, and leaves the others.
 pub fn agrees(body: &[u8]) -> bool {
-    let last = list::target(body);
-    let a = list::slab64(body, list::slab(body, 0));
-    let b = list::slab64(body, list::slab(body, 1));
-    let mut c = list::slab64(body, list::slab(body, last));
-    let la = list::length(body, 0);
-    let lb = list::length(body, 1);
-    let lc = list::length(body, last);
+    let last = recorded_calls::target(body);
+    let a = recorded_calls::slab64(body, recorded_calls::slab(body, 0));
+    let b = recorded_calls::slab64(body, recorded_calls::slab(body, 1));
+    let mut c = recorded_calls::slab64(body, recorded_calls::slab(body, last));
+    let la = recorded_calls::length(body, 0);
+    let lb = recorded_calls::length(body, 1);
+    let lc = recorded_calls::length(body, last);
     compare(body, &a[..la], &b[..lb], &mut c[..lc])
 }
 
 fn compare(body: &[u8], a: &[f64], b: &[f64], c: &mut [f64]) -> bool {
-    if call(body, a, b, c) == list::answer(body) {
-        if list::same64(body, list::slab(body, 0), a) {
-            if list::same64(body, list::slab(body, 1), b) {
-                return list::same64(body, list::after(body), c);
+    if call(body, a, b, c) == recorded_calls::answer(body) {
+        if recorded_calls::same64(body, recorded_calls::slab(body, 0), a) {
+            if recorded_calls::same64(body, recorded_calls::slab(body, 1), b) {
+                return recorded_calls::same64(body, recorded_calls::after(body), c);
             }
         }
     }
@@ -27,7 +27,7 @@ fn compare(body: &[u8], a: &[f64], b: &[f64], c: &mut [f64]) -> bool {
 }
 
 fn call(body: &[u8], a: &[f64], b: &[f64], c: &mut [f64]) -> u8 {
-    if list::target(body) == 1 {
+    if recorded_calls::target(body) == 1 {
         two_slabs(body, a, c)
     } else {
         three_slabs(body, a, b, c)
@@ -36,25 +36,25 @@ fn call(body: &[u8], a: &[f64], b: &[f64], c: &mut [f64]) -> u8 {
 
 fn alpha(body: &[u8]) -> Complex {
     Complex {
-        re: list::scalar64(body, 0),
-        im: list::scalar64(body, 1),
+        re: recorded_calls::scalar64(body, 0),
+        im: recorded_calls::scalar64(body, 1),
     }
 }
 
 fn beta(body: &[u8]) -> Complex {
     Complex {
-        re: list::scalar64(body, 2),
-        im: list::scalar64(body, 3),
+        re: recorded_calls::scalar64(body, 2),
+        im: recorded_calls::scalar64(body, 3),
     }
 }
 
 // The number of the answer; 255 where there is no such routine.
 fn two_slabs(body: &[u8], x: &[f64], a: &mut [f64]) -> u8 {
     let u = uplo(body, 0);
-    let vx = list::view(body, 0);
-    let va = list::view(body, 1);
-    match list::routine(body) {
-        2 => view::number(rank_complex::her(u, list::scalar64(body, 0), x, vx, a, va)),
+    let vx = recorded_calls::view(body, 0);
+    let va = recorded_calls::view(body, 1);
+    match recorded_calls::routine(body) {
+        2 => view::number(rank_complex::her(u, recorded_calls::scalar64(body, 0), x, vx, a, va)),
         _ => 255,
     }
 }
@@ -63,10 +63,10 @@ fn three_slabs(body: &[u8], a: &[f64], b: &[f64], c: &mut [f64]) -> u8 {
     let p = alpha(body);
     let u = uplo(body, 0);
     let t = trans(body, 1);
-    let va = list::view(body, 0);
-    let vb = list::view(body, 1);
-    let vc = list::view(body, 2);
-    match list::routine(body) {
+    let va = recorded_calls::view(body, 0);
+    let vb = recorded_calls::view(body, 1);
+    let vc = recorded_calls::view(body, 2);
+    match recorded_calls::routine(body) {
         3 => view::number(rank_complex::her2(u, p, a, va, b, vb, c, vc)),
         11 => view::number(rank_complex::syr2k(u, t, p, a, va, b, vb, beta(body), c, vc)),
         12 => view::number(rank_complex::her2k(
@@ -77,7 +77,7 @@ fn three_slabs(body: &[u8], a: &[f64], b: &[f64], c: &mut [f64]) -> u8 {
             va,
             b,
             vb,
-            list::scalar64(body, 2),
+            recorded_calls::scalar64(body, 2),
             c,
             vc,
         )),

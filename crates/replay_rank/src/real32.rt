@@ -1,25 +1,25 @@
 // Replays a call in f32.
-use list::trans;
-use list::uplo;
+use recorded_calls::trans;
+use recorded_calls::uplo;
 use number::Real32;
 
 // Whether the call gives the record's answer and the target's slab after the call, and leaves the others.
 pub fn agrees(body: &[u8]) -> bool {
-    let last = list::target(body);
-    let a = list::slab32(body, list::slab(body, 0));
-    let b = list::slab32(body, list::slab(body, 1));
-    let mut c = list::slab32(body, list::slab(body, last));
-    let la = list::length(body, 0);
-    let lb = list::length(body, 1);
-    let lc = list::length(body, last);
+    let last = recorded_calls::target(body);
+    let a = recorded_calls::slab32(body, recorded_calls::slab(body, 0));
+    let b = recorded_calls::slab32(body, recorded_calls::slab(body, 1));
+    let mut c = recorded_calls::slab32(body, recorded_calls::slab(body, last));
+    let la = recorded_calls::length(body, 0);
+    let lb = recorded_calls::length(body, 1);
+    let lc = recorded_calls::length(body, last);
     compare(body, &a[..la], &b[..lb], &mut c[..lc])
 }
 
 fn compare(body: &[u8], a: &[f32], b: &[f32], c: &mut [f32]) -> bool {
-    if call(body, a, b, c) == list::answer(body) {
-        if list::same32(body, list::slab(body, 0), a) {
-            if list::same32(body, list::slab(body, 1), b) {
-                return list::same32(body, list::after(body), c);
+    if call(body, a, b, c) == recorded_calls::answer(body) {
+        if recorded_calls::same32(body, recorded_calls::slab(body, 0), a) {
+            if recorded_calls::same32(body, recorded_calls::slab(body, 1), b) {
+                return recorded_calls::same32(body, recorded_calls::after(body), c);
             }
         }
     }
@@ -27,7 +27,7 @@ fn compare(body: &[u8], a: &[f32], b: &[f32], c: &mut [f32]) -> bool {
 }
 
 fn call(body: &[u8], a: &[f32], b: &[f32], c: &mut [f32]) -> u8 {
-    if list::target(body) == 1 {
+    if recorded_calls::target(body) == 1 {
         two_slabs(body, a, c)
     } else {
         three_slabs(body, a, b, c)
@@ -35,20 +35,20 @@ fn call(body: &[u8], a: &[f32], b: &[f32], c: &mut [f32]) -> u8 {
 }
 
 fn alpha(body: &[u8]) -> Real32 {
-    Real32(list::scalar32(body, 0))
+    Real32(recorded_calls::scalar32(body, 0))
 }
 
 fn beta(body: &[u8]) -> Real32 {
-    Real32(list::scalar32(body, 2))
+    Real32(recorded_calls::scalar32(body, 2))
 }
 
 // The number of the answer; 255 where there is no such routine.
 fn two_slabs(body: &[u8], x: &[f32], a: &mut [f32]) -> u8 {
     let u = uplo(body, 0);
-    let vx = list::view(body, 0);
-    let va = list::view(body, 1);
-    match list::routine(body) {
-        2 => view::number(rank_real32::her(u, list::scalar32(body, 0), x, vx, a, va)),
+    let vx = recorded_calls::view(body, 0);
+    let va = recorded_calls::view(body, 1);
+    match recorded_calls::routine(body) {
+        2 => view::number(rank_real32::her(u, recorded_calls::scalar32(body, 0), x, vx, a, va)),
         _ => 255,
     }
 }
@@ -57,10 +57,10 @@ fn three_slabs(body: &[u8], a: &[f32], b: &[f32], c: &mut [f32]) -> u8 {
     let p = alpha(body);
     let u = uplo(body, 0);
     let t = trans(body, 1);
-    let va = list::view(body, 0);
-    let vb = list::view(body, 1);
-    let vc = list::view(body, 2);
-    match list::routine(body) {
+    let va = recorded_calls::view(body, 0);
+    let vb = recorded_calls::view(body, 1);
+    let vc = recorded_calls::view(body, 2);
+    match recorded_calls::routine(body) {
         3 => view::number(rank_real32::her2(u, p, a, va, b, vb, c, vc)),
         11 => view::number(rank_real32::syr2k(u, t, p, a, va, b, vb, beta(body), c, vc)),
         12 => view::number(rank_real32::her2k(
@@ -71,7 +71,7 @@ fn three_slabs(body: &[u8], a: &[f32], b: &[f32], c: &mut [f32]) -> u8 {
             va,
             b,
             vb,
-            list::scalar32(body, 2),
+            recorded_calls::scalar32(body, 2),
             c,
             vc,
         )),

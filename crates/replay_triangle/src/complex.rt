@@ -1,23 +1,23 @@
 // Replays a call in complex numbers.
-use list::diag;
-use list::side;
-use list::trans;
-use list::uplo;
+use recorded_calls::diag;
+use recorded_calls::side;
+use recorded_calls::trans;
+use recorded_calls::uplo;
 use number::Complex;
 
 // Whether the call gives the record's answer and the target's slab after the call, and leaves the other.
 pub fn agrees(body: &[u8]) -> bool {
-    let a = list::slab64(body, list::slab(body, 0));
-    let mut b = list::slab64(body, list::slab(body, 1));
-    let la = list::length(body, 0);
-    let lb = list::length(body, 1);
+    let a = recorded_calls::slab64(body, recorded_calls::slab(body, 0));
+    let mut b = recorded_calls::slab64(body, recorded_calls::slab(body, 1));
+    let la = recorded_calls::length(body, 0);
+    let lb = recorded_calls::length(body, 1);
     compare(body, &a[..la], &mut b[..lb])
 }
 
 fn compare(body: &[u8], a: &[f64], b: &mut [f64]) -> bool {
-    if call(body, a, b) == list::answer(body) {
-        if list::same64(body, list::slab(body, 0), a) {
-            return list::same64(body, list::after(body), b);
+    if call(body, a, b) == recorded_calls::answer(body) {
+        if recorded_calls::same64(body, recorded_calls::slab(body, 0), a) {
+            return recorded_calls::same64(body, recorded_calls::after(body), b);
         }
     }
     false
@@ -25,14 +25,14 @@ fn compare(body: &[u8], a: &[f64], b: &mut [f64]) -> bool {
 
 fn alpha(body: &[u8]) -> Complex {
     Complex {
-        re: list::scalar64(body, 0),
-        im: list::scalar64(body, 1),
+        re: recorded_calls::scalar64(body, 0),
+        im: recorded_calls::scalar64(body, 1),
     }
 }
 
 // The number of the answer; 255 where there is no such routine.
 fn call(body: &[u8], a: &[f64], b: &mut [f64]) -> u8 {
-    match list::routine(body) {
+    match recorded_calls::routine(body) {
         4 => trmv(body, a, b),
         5 => trsv(body, a, b),
         13 => trmm(body, a, b),
@@ -45,8 +45,8 @@ fn trmv(body: &[u8], a: &[f64], x: &mut [f64]) -> u8 {
     let u = uplo(body, 0);
     let t = trans(body, 1);
     let d = diag(body, 2);
-    let va = list::view(body, 0);
-    let vx = list::view(body, 1);
+    let va = recorded_calls::view(body, 0);
+    let vx = recorded_calls::view(body, 1);
     view::number(triangle_complex::trmv(u, t, d, a, va, x, vx))
 }
 
@@ -54,8 +54,8 @@ fn trsv(body: &[u8], a: &[f64], x: &mut [f64]) -> u8 {
     let u = uplo(body, 0);
     let t = trans(body, 1);
     let d = diag(body, 2);
-    let va = list::view(body, 0);
-    let vx = list::view(body, 1);
+    let va = recorded_calls::view(body, 0);
+    let vx = recorded_calls::view(body, 1);
     view::number(triangle_complex::trsv(u, t, d, a, va, x, vx))
 }
 
@@ -64,8 +64,8 @@ fn trmm(body: &[u8], a: &[f64], b: &mut [f64]) -> u8 {
     let u = uplo(body, 1);
     let t = trans(body, 2);
     let d = diag(body, 3);
-    let va = list::view(body, 0);
-    let vb = list::view(body, 1);
+    let va = recorded_calls::view(body, 0);
+    let vb = recorded_calls::view(body, 1);
     view::number(triangle_complex::trmm(s, u, t, d, alpha(body), a, va, b, vb))
 }
 
@@ -74,7 +74,7 @@ fn trsm(body: &[u8], a: &[f64], b: &mut [f64]) -> u8 {
     let u = uplo(body, 1);
     let t = trans(body, 2);
     let d = diag(body, 3);
-    let va = list::view(body, 0);
-    let vb = list::view(body, 1);
+    let va = recorded_calls::view(body, 0);
+    let vb = recorded_calls::view(body, 1);
     view::number(triangle_complex::trsm(s, u, t, d, alpha(body), a, va, b, vb))
 }

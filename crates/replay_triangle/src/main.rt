@@ -12,10 +12,10 @@ fn main() {
     }
     let mut calls = [0u64; 64];
     let mut agreed = [0u64; 64];
-    let records = list::records(fd);
+    let records = recorded_calls::records(fd);
     replay(fd, records, &mut calls, &mut agreed);
     libc::close(fd);
-    list::report(records, &calls, &agreed);
+    recorded_calls::report(records, &calls, &agreed);
 }
 
 fn replay(fd: i32, records: u64, calls: &mut [u64], agreed: &mut [u64]) {
@@ -28,7 +28,7 @@ fn replay(fd: i32, records: u64, calls: &mut [u64], agreed: &mut [u64]) {
 // Replays the next record, and answers whether there was one.
 fn replay_one(fd: i32, calls: &mut [u64], agreed: &mut [u64]) -> bool {
     let mut space = io::buffer();
-    let n = list::next(fd, &mut space);
+    let n = recorded_calls::next(fd, &mut space);
     if n == 0 {
         return false;
     }
@@ -37,13 +37,13 @@ fn replay_one(fd: i32, calls: &mut [u64], agreed: &mut [u64]) -> bool {
 }
 
 fn judge(body: &[u8], calls: &mut [u64], agreed: &mut [u64]) {
-    list::count(body, agrees(body), calls, agreed);
+    recorded_calls::count(body, agrees(body), calls, agreed);
 }
 
 // A record of these routines has two views.
 fn agrees(body: &[u8]) -> bool {
-    if list::whole(body) {
-        if list::target(body) == 1 {
+    if recorded_calls::whole(body) {
+        if recorded_calls::target(body) == 1 {
             return agrees_in_kind(body);
         }
     }
@@ -51,7 +51,7 @@ fn agrees(body: &[u8]) -> bool {
 }
 
 fn agrees_in_kind(body: &[u8]) -> bool {
-    match list::kind(body) {
+    match recorded_calls::kind(body) {
         0 => real64::agrees(body),
         1 => real32::agrees(body),
         2 => complex::agrees(body),

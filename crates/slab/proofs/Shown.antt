@@ -5,7 +5,7 @@ use native.Mathlib.Omega.{arith}
 use lib.IntN.{ℤ, pos}
 use Rattle.view.specs.declared.View.{View}
 use Rattle.view.specs.Place.{index}
-use Rattle.view.specs.PlaceLaws.{fits→index-lt, fits→inside, index-is}
+use Rattle.view.proofs.PlaceLaws.{fits→index-lt, fits→inside, index-is}
 use Rattle.view.specs.Steps.{Shown, up, down}
 use Rattle.slab.specs.Elem.{Within}
 

@@ -1,8 +1,8 @@
 // One slab printed as several matrices, by what the strides say, negative ones included; and reads that are refused.
 use read_view::Found;
 use read_view::FoundComplex;
-use show::column;
-use show::text;
+use text::column;
+use text::text;
 use view::Answer;
 use view::View;
 

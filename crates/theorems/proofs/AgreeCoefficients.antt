@@ -16,7 +16,7 @@ use Rattle.view.specs.declared.Diag.the-variants.{NonUnit, Unit}
 use Rattle.view.specs.declared.Side.{Side}
 use Rattle.view.specs.declared.Side.the-variants.{Left, Right}
 use Rattle.view.specs.Triangle.{inTriangle}
-use Rattle.view.specs.AnyLaws.{and-both, and-left, and-right, clash}
+use Rattle.view.proofs.AnyLaws.{and-both, and-left, and-right, clash}
 use Rattle.slab.specs.Update.{Mask}
 use Rattle.blas.specs.Matrix.{Matrix, op}
 use Rattle.blas.specs.Triangular.{opUpper, inOp}

@@ -16,7 +16,7 @@ use Rattle.view.specs.declared.UpLo.{UpLo}
 use Rattle.view.specs.declared.Diag.the-variants.{Unit}
 use Rattle.view.specs.declared.Side.{Side}
 use Rattle.view.specs.Any.{any}
-use Rattle.view.specs.AnyLaws.{none, and-right, is-false, clash}
+use Rattle.view.proofs.AnyLaws.{none, and-right, is-false, clash}
 use Rattle.view.specs.Checks.{orderOf}
 use Rattle.blas.specs.Matrix.{Matrix}
 use Rattle.blas.specs.Substitution.{unknownAt, unknown, lastFirst, inOrder, leastSolved, turnOf, lineOf, minusTerms, solveOne, solved, substituted}

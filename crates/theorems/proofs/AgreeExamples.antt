@@ -16,7 +16,7 @@ use Rattle.view.specs.declared.UpLo.the-variants.{Lower}
 use Rattle.view.specs.declared.Side.the-variants.{Left}
 use Rattle.view.specs.declared.Diag.the-variants.{Unit}
 use Rattle.view.specs.Any.{any}
-use Rattle.view.specs.AnyLaws.{and-left, and-right, clash}
+use Rattle.view.proofs.AnyLaws.{and-left, and-right, clash}
 use Rattle.view.specs.Place.{place, index}
 use Rattle.view.specs.Refusals.{tooLarge, outOfBounds}
 use Rattle.slab.specs.Elem.{Lent, lent}

@@ -11,7 +11,7 @@ use Rattle.view.specs.declared.Answer.{Answer}
 use Rattle.view.specs.declared.Answer.the-variants.{Done, TooLarge, OutOfBounds, ShapeMismatch, Overlap, Singular}
 use Rattle.view.specs.Place.{index}
 use Rattle.view.specs.Refusals.{tooLarge, outOfBounds}
-use Rattle.view.specs.JudgeLaws.{small}
+use Rattle.view.proofs.JudgeLaws.{small}
 use Rattle.view.specs.Steps.{Accepted}
 use Rattle.view.specs.Judge.{Arg, arg, judge, answerNumber}
 use Rattle.slab.specs.Elem.{Lent, elem}

@@ -12,7 +12,7 @@ use Rattle.view.specs.declared.Side.the-variants.{Left, Right}
 use Rattle.view.specs.Refusals.{limit, overlaps}
 use Rattle.view.specs.Steps.{Accepted}
 use Rattle.view.specs.Judge.{arg, judge}
-use Rattle.view.specs.JudgeLaws.{small, judge-passed, passed-judge}
+use Rattle.view.proofs.JudgeLaws.{small, judge-passed, passed-judge}
 use Rattle.slab.specs.Elem.{Lent, lent}
 use Rattle.slab.specs.Update.{Mask}
 use Rattle.blas.specs.Matrix.{Matrix, matrix, dot}

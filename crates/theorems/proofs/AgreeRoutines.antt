@@ -15,11 +15,11 @@ use Rattle.view.specs.declared.Trans.the-variants.{NoTrans, Trans as Transposed
 use Rattle.view.specs.declared.UpLo.{UpLo}
 use Rattle.view.specs.declared.Side.{Side}
 use Rattle.view.specs.declared.Side.the-variants.{Left, Right}
-use Rattle.view.specs.AnyLaws.{and-both}
+use Rattle.view.proofs.AnyLaws.{and-both}
 use Rattle.view.specs.Place.{index}
 use Rattle.view.specs.Refusals.{limit, isVector, vecLength}
 use Rattle.view.specs.Checks.{opRows, opCols, orderOf, shaped, vectorOf, gemvShape, trmvShape, hemvShape, gemmShape, trmmShape, symmShape}
-use Rattle.view.specs.JudgeLaws.{gemv-sizes, hemv-sizes, gemm-sizes, symm-sizes}
+use Rattle.view.proofs.JudgeLaws.{gemv-sizes, hemv-sizes, gemm-sizes, symm-sizes}
 use Rattle.view.specs.Vector.{columnOf}
 use Rattle.slab.specs.Elem.{lent}
 use Rattle.blas.specs.Matrix.{Matrix, matrix, vector, op, symmetric, hermitian}

@@ -15,8 +15,8 @@ use Rattle.view.specs.declared.Side.the-variants.{Left}
 use Rattle.view.specs.Refusals.{limit}
 use Rattle.view.specs.Steps.{Accepted}
 use Rattle.view.specs.Judge.{arg, judge}
-use Rattle.view.specs.JudgeLaws.{small, judge-passed, passed-judge, trmv-sizes, trmm-sizes}
-use Rattle.view.specs.AnyLaws.{and-both}
+use Rattle.view.proofs.JudgeLaws.{small, judge-passed, passed-judge, trmv-sizes, trmm-sizes}
+use Rattle.view.proofs.AnyLaws.{and-both}
 use Rattle.view.specs.Checks.{orderOf, shaped, vectorOf, trmvShape, trmmShape}
 use Rattle.view.specs.Vector.{columnOf}
 use Rattle.slab.specs.Elem.{Lent, lent}

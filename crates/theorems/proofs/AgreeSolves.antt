@@ -17,7 +17,7 @@ use Rattle.view.specs.declared.UpLo.{UpLo}
 use Rattle.view.specs.declared.Diag.the-variants.{Unit}
 use Rattle.view.specs.declared.Side.{Side}
 use Rattle.view.specs.declared.Side.the-variants.{Left, Right}
-use Rattle.view.specs.AnyLaws.{clash}
+use Rattle.view.proofs.AnyLaws.{clash}
 use Rattle.view.specs.Refusals.{Fits}
 use Rattle.view.specs.Checks.{orderOf}
 use Rattle.blas.specs.Matrix.{Matrix}

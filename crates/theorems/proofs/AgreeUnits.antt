@@ -13,13 +13,13 @@ use Rattle.number.specs.Kind.{Kind}
 use Rattle.number.specs.Laws.{Laws, Held}
 use Rattle.view.specs.declared.View.{View}
 use Rattle.view.specs.Place.{place, index}
-use Rattle.view.specs.PlaceLaws.{inside→fits}
+use Rattle.view.proofs.PlaceLaws.{inside→fits}
 use Rattle.view.specs.Refusals.{limit, overlaps, isVector}
-use Rattle.view.specs.OverlapLaws.{overlaps-is, no-meeting}
+use Rattle.view.proofs.OverlapLaws.{overlaps-is, no-meeting}
 use Rattle.view.specs.Steps.{Accepted}
 use Rattle.view.specs.Vector.{vecCoord, columnOf}
-use Rattle.view.specs.VectorLaws.{column-index, coord-sum, column-accepted, column-no-overlap}
-use Rattle.view.specs.AnyLaws.{or-right}
+use Rattle.view.proofs.VectorLaws.{column-index, coord-sum, column-accepted, column-no-overlap}
+use Rattle.view.proofs.AnyLaws.{or-right}
 use Rattle.slab.specs.Elem.{lent}
 use Rattle.theorems.specs.Agreement.{Words, Others}
 use Rattle.theorems.proofs.AgreeSums.{Picks}

@@ -11,9 +11,9 @@ use Rattle.view.specs.declared.Trans.the-variants.{NoTrans, Trans as Transposed
 use Rattle.view.specs.declared.Side.{Side}
 use Rattle.view.specs.declared.Side.the-variants.{Left, Right}
 use Rattle.view.specs.Checks.{opRows, opCols, orderOf, symmShape, syrkShape, gemvCheck, hemvCheck, gemmCheck, symmCheck, syrkCheck, herkCheck}
-use Rattle.view.specs.JudgeLaws.{judge-passed, gemv-sizes, hemv-sizes, gemm-sizes, symm-sizes, syrk-sizes}
+use Rattle.view.proofs.JudgeLaws.{judge-passed, gemv-sizes, hemv-sizes, gemm-sizes, symm-sizes, syrk-sizes}
 use Rattle.view.specs.Vector.{columnOf}
-use Rattle.view.specs.VectorLaws.{column-accepted, column-no-overlap}
+use Rattle.view.proofs.VectorLaws.{column-accepted, column-no-overlap}
 use Rattle.slab.specs.Elem.{Lent}
 use Rattle.slab.specs.Update.{everywhere, update}
 use Rattle.blas.specs.Matrix.{Matrix, matrix, vector, op, dot, accumulate}

@@ -11,7 +11,7 @@ use Rattle.number.specs.Scaling.{scaled, scaledReal}
 use Rattle.view.specs.declared.View.{View}
 use Rattle.view.specs.declared.Trans.{Trans}
 use Rattle.view.specs.Checks.{opRows, opCols, syr2kShape, herCheck, her2Check, syr2kCheck, her2kCheck}
-use Rattle.view.specs.JudgeLaws.{Vector, judge-passed, trmv-sizes, hemv-sizes, syr2k-sizes}
+use Rattle.view.proofs.JudgeLaws.{Vector, judge-passed, trmv-sizes, hemv-sizes, syr2k-sizes}
 use Rattle.view.specs.Steps.{Accepted}
 use Rattle.view.specs.Triangle.{inTriangle}
 use Rattle.slab.specs.Elem.{Lent, elem}

@@ -13,12 +13,12 @@ use Rattle.view.specs.declared.Diag.{Diag}
 use Rattle.view.specs.declared.Diag.the-variants.{NonUnit, Unit}
 use Rattle.view.specs.declared.Side.{Side}
 use Rattle.view.specs.declared.Side.the-variants.{Left, Right}
-use Rattle.view.specs.AnyLaws.{and-both}
+use Rattle.view.proofs.AnyLaws.{and-both}
 use Rattle.view.specs.Checks.{orderOf, trmvCheck, trmmCheck}
-use Rattle.view.specs.JudgeLaws.{judge-passed, trmv-sizes, trmm-sizes}
+use Rattle.view.proofs.JudgeLaws.{judge-passed, trmv-sizes, trmm-sizes}
 use Rattle.view.specs.Triangle.{inTriangle}
 use Rattle.view.specs.Vector.{columnOf}
-use Rattle.view.specs.VectorLaws.{column-accepted, column-no-overlap}
+use Rattle.view.proofs.VectorLaws.{column-accepted, column-no-overlap}
 use Rattle.slab.specs.Elem.{Lent}
 use Rattle.slab.specs.Update.{everywhere}
 use Rattle.blas.specs.Matrix.{Matrix, matrix, vector, op}

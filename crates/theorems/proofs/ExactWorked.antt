@@ -17,7 +17,7 @@ use Rattle.view.specs.declared.UpLo.the-variants.{Upper, Lower}
 use Rattle.view.specs.declared.Trans.the-variants.{NoTrans, Trans as Transposed, ConjTrans}
 use Rattle.view.specs.declared.Diag.the-variants.{Unit}
 use Rattle.view.specs.Any.{any}
-use Rattle.view.specs.AnyLaws.{none-at, and-left, and-right}
+use Rattle.view.proofs.AnyLaws.{none-at, and-left, and-right}
 use Rattle.view.specs.Place.{place, index}
 use Rattle.view.specs.Refusals.{tooLarge, outOfBounds, overlaps, isVector, vecLength}
 use Rattle.view.specs.Judge.{judge}

@@ -1,8 +1,8 @@
 // The path as text.
 
 ghost use Prim.Native.Nat.{_≤_};
-use show::column;
-use show::text;
+use text::column;
+use text::text;
 use view::Answer;
 
 pub fn taught(poses: &[f64; 6]) {

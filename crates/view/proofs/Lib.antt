@@ -1,2 +1,9 @@
--- Lemmas that several proofs of the crate cite.
+-- The laws of views, which other crates cite too.
 mod Placed
+pub mod AnyLaws
+pub mod Signs
+pub mod PlaceLaws
+pub mod TransposeLaws
+pub mod OverlapLaws
+pub mod VectorLaws
+pub mod JudgeLaws

@@ -9,8 +9,8 @@ use mir.Val.{SFits}
 use Rattle.view.specs.declared.View.{View}
 use Rattle.view.specs.Place.{place, index}
 use Rattle.view.specs.Steps.{up, down, Shown}
-use Rattle.view.specs.Signs.{diff-pos, diff-add, diff-steps, diff-mag}
-use Rattle.view.specs.PlaceLaws.{fits→inside, fits→place, diff-place}
+use Rattle.view.proofs.Signs.{diff-pos, diff-add, diff-steps, diff-mag}
+use Rattle.view.proofs.PlaceLaws.{fits→inside, fits→place, diff-place}
 
 pub record Sound (v : View) (r c : ℕ) : Type 0 where
   pub start-lt : v .start < 2 ^ 63

@@ -1,4 +1,4 @@
--- What the contracts of `view` cite, and the laws of views that other crates cite.
+-- What the contracts of `view` cite.
 pub mod Any
 pub mod Place
 pub mod Refusals
@@ -7,10 +7,3 @@ pub mod Triangle
 pub mod Judge
 pub mod Checks
 pub mod Steps
-pub mod AnyLaws
-pub mod Signs
-pub mod PlaceLaws
-pub mod TransposeLaws
-pub mod OverlapLaws
-pub mod VectorLaws
-pub mod JudgeLaws

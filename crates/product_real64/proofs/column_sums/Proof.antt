@@ -10,7 +10,7 @@ use Rattle.number.proofs.Literals.{zero-literal}
 use Rattle.slab.specs.Eight.{Eight}
 use Rattle.slab.proofs.EightLaws.{eight-of}
 use Rattle.blas.specs.Matrix.{sum}
-use Rattle.view.specs.TransposeLaws.{transposed-accepted}
+use Rattle.view.proofs.TransposeLaws.{transposed-accepted}
 use Rattle.product_plan.specs.Plan.{term}
 use Rattle.product_plan.proofs.Eights.{sums-start, column-sums-next, sums-end}
 use Rattle.product_real64.proofs.column_sums.Statement.{statement}

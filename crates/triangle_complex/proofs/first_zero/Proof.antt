@@ -1,8 +1,8 @@
 use Prim.Native.Nat.{_≤_, _-_}
 use native.Mathlib.Omega.{arith}
 use Rattle.number.specs.Kind.{complex}
-use Rattle.order.specs.Solve.{zeroAfter}
-use Rattle.order.proofs.Solves.{Clear, clear-start, clear-next, first-found, first-nowhere}
+use Rattle.triangle_plan.specs.Solve.{zeroAfter}
+use Rattle.triangle_plan.proofs.Solves.{Clear, clear-start, clear-next, first-found, first-nowhere}
 use Rattle.triangle_complex.proofs.first_zero.Statement.{statement}
 use Rattle.triangle_complex.proofs.first_zero.Tie as tie
 

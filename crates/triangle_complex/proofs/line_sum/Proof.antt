@@ -3,8 +3,8 @@ use native.Mathlib.Omega.{arith}
 use lib.Ieee.{binary64}
 use Rattle.number.specs.Kind.{complex}
 use Rattle.number.proofs.Literals.{zero-literal}
-use Rattle.order.proofs.Systems.{run-spans}
-use Rattle.order.proofs.LineSums.{sum-behind, sum-before}
+use Rattle.triangle_plan.proofs.Systems.{run-spans}
+use Rattle.triangle_plan.proofs.LineSums.{sum-behind, sum-before}
 use borrow.Author.Needs.{needs}
 use Rattle.triangle_complex.proofs.line_sum.Statement.{statement}
 use Rattle.triangle_complex.proofs.line_sum.Tie as tie

@@ -4,12 +4,12 @@ use denote.Ref.{now}
 use native.Mathlib.Omega.{arith}
 use lib.ListN.{length}
 use Rattle.number.specs.Kind.{complex}
-use Rattle.order.specs.declared.System.{System}
-use Rattle.order.specs.Walk.{walk}
-use Rattle.order.specs.Triangles.{timesIf}
-use Rattle.order.specs.Multiply.{multiplyLine, multiplyAll}
-use Rattle.order.proofs.WalkLaws.{walk-start, walk-next, walk-end}
-use Rattle.order.proofs.Systems.{ready-made}
+use Rattle.triangle_plan.specs.declared.System.{System}
+use Rattle.triangle_plan.specs.Walk.{walk}
+use Rattle.triangle_plan.specs.Triangles.{timesIf}
+use Rattle.triangle_plan.specs.Multiply.{multiplyLine, multiplyAll}
+use Rattle.triangle_plan.proofs.WalkLaws.{walk-start, walk-next, walk-end}
+use Rattle.triangle_plan.proofs.Systems.{ready-made}
 use Rattle.triangle_complex.proofs.multiply.Statement.{statement}
 use Rattle.triangle_complex.proofs.multiply.Tie as tie
 

@@ -3,10 +3,10 @@ use mathlib.Core.Path.{_≡_, refl, ap, _∙_}
 use native.Mathlib.Omega.{arith}
 use lib.ListN.{length}
 use Rattle.number.specs.Kind.{complex}
-use Rattle.order.specs.Triangles.{timesIf}
-use Rattle.order.specs.Multiply.{multiplyLine}
-use Rattle.order.proofs.Systems.{ready-for}
-use Rattle.order.proofs.WalkLaws.{walk-start, walk-next, walk-end}
+use Rattle.triangle_plan.specs.Triangles.{timesIf}
+use Rattle.triangle_plan.specs.Multiply.{multiplyLine}
+use Rattle.triangle_plan.proofs.Systems.{ready-for}
+use Rattle.triangle_plan.proofs.WalkLaws.{walk-start, walk-next, walk-end}
 use Rattle.triangle_complex.proofs.multiply_line.Statement.{statement}
 use Rattle.triangle_complex.proofs.multiply_line.Tie as tie
 

@@ -5,8 +5,8 @@ use Rattle.number.specs.Kind.{complex}
 use Rattle.slab.specs.Elem.{elem}
 use Rattle.slab.specs.Run.{elemConj}
 use Rattle.blas.specs.Substitution.{minusTerms}
-use Rattle.order.proofs.Systems.{weighed}
-use Rattle.order.proofs.Runs.{run-end, span-left, span-right, minus-first, minus-on, minus-done}
+use Rattle.triangle_plan.proofs.Systems.{weighed}
+use Rattle.triangle_plan.proofs.Runs.{run-end, span-left, span-right, minus-first, minus-on, minus-done}
 use Rattle.triangle_complex.proofs.reduce.Statement.{statement}
 use Rattle.triangle_complex.proofs.reduce.Tie as tie
 

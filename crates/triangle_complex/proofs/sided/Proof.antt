@@ -2,11 +2,11 @@ use Prim.Native.Nat.{ℕ, _/_}
 use mathlib.Core.Path.{ap}
 use Rattle.number.specs.Kind.{complex}
 use Rattle.number.proofs.Instances.{complex-laws}
-use Rattle.order.proofs.InOrder.{complex-swaps}
+use Rattle.triangle_plan.proofs.InOrder.{complex-swaps}
 use Rattle.number.proofs.Commutes.{complex-commutes}
-use Rattle.order.proofs.Systems.{ready-made}
-use Rattle.order.proofs.Solves.{solved-gives}
-use Rattle.order.proofs.SolveKernels.{sided-gives}
+use Rattle.triangle_plan.proofs.Systems.{ready-made}
+use Rattle.triangle_plan.proofs.Solves.{solved-gives}
+use Rattle.triangle_plan.proofs.SolveKernels.{sided-gives}
 use borrow.Author.Needs.{needs}
 use Rattle.triangle_complex.proofs.sided.Statement.{statement}
 use Rattle.triangle_complex.proofs.sided.Tie as tie

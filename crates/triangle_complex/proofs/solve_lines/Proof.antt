@@ -1,5 +1,5 @@
 use Rattle.number.specs.Kind.{complex}
-use Rattle.order.proofs.Solves.{lines-in, unknowns-in, lines-solved}
+use Rattle.triangle_plan.proofs.Solves.{lines-in, unknowns-in, lines-solved}
 use borrow.Author.Needs.{needs}
 use Rattle.triangle_complex.proofs.solve_lines.Statement.{statement}
 use Rattle.triangle_complex.proofs.solve_lines.Tie as tie

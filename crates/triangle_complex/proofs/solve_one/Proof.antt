@@ -4,9 +4,9 @@ use denote.Ref.{now}
 use native.Mathlib.Omega.{arith}
 use Rattle.number.specs.Kind.{complex}
 use Rattle.slab.proofs.Shown.{shown, inside}
-use Rattle.order.specs.Triangles.{timesIf}
-use Rattle.order.proofs.Systems.{pivot-shown, unknown-shown, run-spans}
-use Rattle.order.proofs.Solves.{solve-one-is}
+use Rattle.triangle_plan.specs.Triangles.{timesIf}
+use Rattle.triangle_plan.proofs.Systems.{pivot-shown, unknown-shown, run-spans}
+use Rattle.triangle_plan.proofs.Solves.{solve-one-is}
 use borrow.Author.Needs.{needs}
 use Rattle.triangle_complex.proofs.solve_one.Statement.{statement}
 use Rattle.triangle_complex.proofs.solve_one.Tie as tie

@@ -1,10 +1,10 @@
 use mathlib.Core.Path.{refl}
 use Rattle.number.specs.Kind.{complex}
 use Rattle.number.proofs.Instances.{complex-laws}
-use Rattle.order.proofs.InOrder.{complex-swaps}
+use Rattle.triangle_plan.proofs.InOrder.{complex-swaps}
 use Rattle.number.proofs.Commutes.{complex-commutes}
-use Rattle.order.proofs.Judged.{matrix-runs}
-use Rattle.order.proofs.ProductKernels.{trmm-refused, trmm-done}
+use Rattle.triangle_plan.proofs.Judged.{matrix-runs}
+use Rattle.triangle_plan.proofs.ProductKernels.{trmm-refused, trmm-done}
 use borrow.Author.Needs.{needs}
 use Rattle.triangle_complex.proofs.trmm.Statement.{statement}
 use Rattle.triangle_complex.proofs.trmm.Tie as tie

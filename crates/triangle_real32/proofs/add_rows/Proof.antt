@@ -9,9 +9,9 @@ use Rattle.number.specs.Kind.{real32}
 use Rattle.number.proofs.Commutes.{real-commutes}
 use Rattle.slab.specs.Eight.{Eight}
 use Rattle.slab.specs.Run.{plusTerms}
-use Rattle.order.specs.Multiply.{lineTerm}
-use Rattle.order.proofs.Systems.{unknown-shown}
-use Rattle.order.proofs.Rows.{rows-shown, rows-first, rows-on, rows-done}
+use Rattle.triangle_plan.specs.Multiply.{lineTerm}
+use Rattle.triangle_plan.proofs.Systems.{unknown-shown}
+use Rattle.triangle_plan.proofs.Rows.{rows-shown, rows-first, rows-on, rows-done}
 use Rattle.triangle_real32.proofs.add_rows.Statement.{statement}
 use Rattle.triangle_real32.proofs.add_rows.Tie as tie
 

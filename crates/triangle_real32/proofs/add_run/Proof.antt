@@ -4,8 +4,8 @@ use native.Mathlib.Omega.{arith}
 use Rattle.number.specs.Kind.{real32}
 use Rattle.slab.specs.Elem.{elem}
 use Rattle.slab.specs.Run.{elemConj, plusTerms}
-use Rattle.order.proofs.Systems.{weighed}
-use Rattle.order.proofs.Runs.{run-end, span-left, span-right, plus-first, plus-on, plus-done}
+use Rattle.triangle_plan.proofs.Systems.{weighed}
+use Rattle.triangle_plan.proofs.Runs.{run-end, span-left, span-right, plus-first, plus-on, plus-done}
 use Rattle.triangle_real32.proofs.add_run.Statement.{statement}
 use Rattle.triangle_real32.proofs.add_run.Tie as tie
 

@@ -8,7 +8,7 @@ use Rattle.number.specs.Kind.{real32}
 use Rattle.slab.specs.Eight.{Eight}
 use Rattle.slab.specs.Elem.{elem}
 use Rattle.slab.specs.Run.{elemConj, plusTerms}
-use Rattle.order.proofs.Runs.{run-end, span-left, span-right, more-first, more-on, more-done}
+use Rattle.triangle_plan.proofs.Runs.{run-end, span-left, span-right, more-first, more-on, more-done}
 use Rattle.triangle_real32.proofs.add_run_eight.Statement.{statement}
 use Rattle.triangle_real32.proofs.add_run_eight.Tie as tie
 

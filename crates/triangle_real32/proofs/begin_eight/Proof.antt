@@ -1,5 +1,5 @@
 use Rattle.number.specs.Kind.{real32}
-use Rattle.order.proofs.Runs.{eight-then}
+use Rattle.triangle_plan.proofs.Runs.{eight-then}
 use borrow.Author.Needs.{needs}
 use Rattle.triangle_real32.proofs.begin_eight.Statement.{statement}
 use Rattle.triangle_real32.proofs.begin_eight.Tie as tie

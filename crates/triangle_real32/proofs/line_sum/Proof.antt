@@ -4,7 +4,7 @@ use native.Mathlib.Omega.{arith}
 use lib.Ieee.{binary32}
 use Rattle.number.specs.Kind.{real32}
 use Rattle.number.proofs.Literals.{zero-literal}
-use Rattle.order.proofs.LineSums.{line-behind, line-before}
+use Rattle.triangle_plan.proofs.LineSums.{line-behind, line-before}
 use borrow.Author.Needs.{needs}
 use Rattle.triangle_real32.proofs.line_sum.Statement.{statement}
 use Rattle.triangle_real32.proofs.line_sum.Tie as tie

@@ -3,10 +3,10 @@ use mathlib.Core.Path.{_≡_, refl, _∙_}
 use native.Mathlib.Omega.{arith}
 use lib.ListN.{length}
 use Rattle.number.specs.Kind.{real32}
-use Rattle.order.specs.Walk.{walk}
-use Rattle.order.specs.Multiply.{multiplyOne}
-use Rattle.order.proofs.WalkLaws.{walk-start, walk-block, walk-end}
-use Rattle.order.proofs.Systems.{ready-for}
+use Rattle.triangle_plan.specs.Walk.{walk}
+use Rattle.triangle_plan.specs.Multiply.{multiplyOne}
+use Rattle.triangle_plan.proofs.WalkLaws.{walk-start, walk-block, walk-end}
+use Rattle.triangle_plan.proofs.Systems.{ready-for}
 use Rattle.triangle_real32.proofs.multiply_blocks.Statement.{statement}
 use Rattle.triangle_real32.proofs.multiply_blocks.Tie as tie
 

@@ -3,8 +3,8 @@ use denote.Ref.{now}
 use native.Mathlib.Omega.{arith}
 use Rattle.number.specs.Kind.{real32}
 use Rattle.number.proofs.Instances.{real32-laws}
-use Rattle.order.proofs.Systems.{unknown-shown}
-use Rattle.order.proofs.Lines.{multiply-eight-is}
+use Rattle.triangle_plan.proofs.Systems.{unknown-shown}
+use Rattle.triangle_plan.proofs.Lines.{multiply-eight-is}
 use borrow.Author.Needs.{needs}
 use Rattle.triangle_real32.proofs.multiply_eight.Statement.{statement}
 use Rattle.triangle_real32.proofs.multiply_eight.Tie as tie

@@ -6,8 +6,8 @@ use lib.Ieee.{binary32}
 use Rattle.number.specs.Kind.{real32}
 use Rattle.number.proofs.SlabLaws.{real-slab}
 use Rattle.slab.proofs.EightLaws.{Part, part-start, part-next, part-end}
-use Rattle.order.specs.Multiply.{ownFirst}
-use Rattle.order.proofs.Rows.{row-ready}
+use Rattle.triangle_plan.specs.Multiply.{ownFirst}
+use Rattle.triangle_plan.proofs.Rows.{row-ready}
 use Rattle.triangle_real32.proofs.own_first_eight.Statement.{statement}
 use Rattle.triangle_real32.proofs.own_first_eight.Tie as tie
 

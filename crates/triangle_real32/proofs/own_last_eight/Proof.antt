@@ -8,8 +8,8 @@ use borrow.Kind.Array.{good-length, eFloat}
 use Rattle.number.specs.Kind.{real32}
 use Rattle.number.proofs.SlabLaws.{real-slab}
 use Rattle.slab.proofs.EightLaws.{Part, part-start, part-next, part-end}
-use Rattle.order.specs.Multiply.{ownLast}
-use Rattle.order.proofs.Rows.{row-ready}
+use Rattle.triangle_plan.specs.Multiply.{ownLast}
+use Rattle.triangle_plan.proofs.Rows.{row-ready}
 use Rattle.triangle_real32.proofs.own_last_eight.Statement.{statement}
 use Rattle.triangle_real32.proofs.own_last_eight.Tie as tie
 

@@ -1,5 +1,5 @@
 use Rattle.number.specs.Kind.{real32}
-use Rattle.order.proofs.Systems.{weighed}
+use Rattle.triangle_plan.proofs.Systems.{weighed}
 use borrow.Author.Needs.{needs}
 use Rattle.triangle_real32.proofs.own_term.Statement.{statement}
 use Rattle.triangle_real32.proofs.own_term.Tie as tie

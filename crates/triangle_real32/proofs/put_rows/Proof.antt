@@ -4,9 +4,9 @@ use native.Mathlib.Omega.{arith}
 use lib.ListN.{length}
 use Rattle.number.specs.Kind.{real32}
 use Rattle.slab.proofs.Shown.{shown, inside}
-use Rattle.order.specs.Eights.{putRows}
-use Rattle.order.proofs.WalkLaws.{walk-start, walk-next, walk-end}
-use Rattle.order.proofs.Systems.{in-row}
+use Rattle.triangle_plan.specs.Eights.{putRows}
+use Rattle.triangle_plan.proofs.WalkLaws.{walk-start, walk-next, walk-end}
+use Rattle.triangle_plan.proofs.Systems.{in-row}
 use Rattle.triangle_real32.proofs.put_rows.Statement.{statement}
 use Rattle.triangle_real32.proofs.put_rows.Tie as tie
 

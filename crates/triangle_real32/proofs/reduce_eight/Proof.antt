@@ -9,7 +9,7 @@ use Rattle.slab.specs.Eight.{Eight}
 use Rattle.slab.specs.Elem.{elem}
 use Rattle.slab.specs.Run.{elemConj}
 use Rattle.blas.specs.Substitution.{minusTerms}
-use Rattle.order.proofs.Runs.{run-end, span-left, span-right, less-first, less-on, less-done}
+use Rattle.triangle_plan.proofs.Runs.{run-end, span-left, span-right, less-first, less-on, less-done}
 use Rattle.triangle_real32.proofs.reduce_eight.Statement.{statement}
 use Rattle.triangle_real32.proofs.reduce_eight.Tie as tie
 

@@ -4,7 +4,7 @@ use lib.Ieee.{binary32}
 use Rattle.number.specs.Kind.{real32}
 use Rattle.number.proofs.Literals.{zero-literal}
 use Rattle.slab.proofs.EightLaws.{eight-of}
-use Rattle.order.proofs.Rows.{rows-behind, rows-before}
+use Rattle.triangle_plan.proofs.Rows.{rows-behind, rows-before}
 use borrow.Author.Needs.{needs}
 use Rattle.triangle_real32.proofs.row_sums.Statement.{statement}
 use Rattle.triangle_real32.proofs.row_sums.Tie as tie

@@ -5,7 +5,7 @@ use borrow.Author.Needs.{needs}
 use lib.ListN.{length}
 use Prim.Native.Nat.{_≤_, _-_}
 use mathlib.Core.Path.{_≡_, refl, _∙_}
-use Rattle.order.proofs.Systems.{row-in}
+use Rattle.triangle_plan.proofs.Systems.{row-in}
 use native.Mathlib.Omega.{arith}
 use Rattle.triangle_real32.proofs.scale.Statement.{statement}
 use Rattle.triangle_real32.proofs.scale.Tie as tie

@@ -2,9 +2,9 @@ use denote.Ref.{now}
 use native.Mathlib.Omega.{arith}
 use Rattle.number.specs.Kind.{real32}
 use Rattle.number.proofs.Instances.{real32-laws}
-use Rattle.order.specs.Triangles.{timesIf}
-use Rattle.order.proofs.Systems.{unknown-shown, run-spans}
-use Rattle.order.proofs.Lines.{solve-eight-is}
+use Rattle.triangle_plan.specs.Triangles.{timesIf}
+use Rattle.triangle_plan.proofs.Systems.{unknown-shown, run-spans}
+use Rattle.triangle_plan.proofs.Lines.{solve-eight-is}
 use borrow.Author.Needs.{needs}
 use Rattle.triangle_real32.proofs.solve_eight.Statement.{statement}
 use Rattle.triangle_real32.proofs.solve_eight.Tie as tie

@@ -1,5 +1,5 @@
 use Rattle.number.specs.Kind.{real32}
-use Rattle.order.proofs.Solves.{lines-in, unknowns-in, lines-solved}
+use Rattle.triangle_plan.proofs.Solves.{lines-in, unknowns-in, lines-solved}
 use borrow.Author.Needs.{needs}
 use Rattle.triangle_real32.proofs.solve_few.Statement.{statement}
 use Rattle.triangle_real32.proofs.solve_few.Tie as tie

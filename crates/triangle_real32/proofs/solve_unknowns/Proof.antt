@@ -3,11 +3,11 @@ use mathlib.Core.Path.{_≡_, refl, _∙_}
 use native.Mathlib.Omega.{arith}
 use lib.ListN.{length}
 use Rattle.number.specs.Kind.{real32}
-use Rattle.order.specs.Walk.{walk}
-use Rattle.order.specs.Triangles.{timesIf}
-use Rattle.order.specs.Solve.{solveAcross}
-use Rattle.order.proofs.WalkLaws.{walk-start, walk-next, walk-end}
-use Rattle.order.proofs.Systems.{ready-kept}
+use Rattle.triangle_plan.specs.Walk.{walk}
+use Rattle.triangle_plan.specs.Triangles.{timesIf}
+use Rattle.triangle_plan.specs.Solve.{solveAcross}
+use Rattle.triangle_plan.proofs.WalkLaws.{walk-start, walk-next, walk-end}
+use Rattle.triangle_plan.proofs.Systems.{ready-kept}
 use Rattle.triangle_real32.proofs.solve_unknowns.Statement.{statement}
 use Rattle.triangle_real32.proofs.solve_unknowns.Tie as tie
 

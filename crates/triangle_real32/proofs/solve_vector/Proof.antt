@@ -3,11 +3,11 @@ use mathlib.Core.Path.{_≡_, refl, _∙_}
 use native.Mathlib.Omega.{arith}
 use lib.ListN.{length}
 use Rattle.number.specs.Kind.{real32}
-use Rattle.order.specs.Walk.{walk}
-use Rattle.order.specs.Solve.{solveUnknown, zeroAfter}
-use Rattle.order.proofs.WalkLaws.{walk-start, walk-next}
-use Rattle.order.proofs.Systems.{ready-for}
-use Rattle.order.proofs.Solves.{Clear, clear-start, clear-next, first-found, first-nowhere, vector-stopped, vector-done}
+use Rattle.triangle_plan.specs.Walk.{walk}
+use Rattle.triangle_plan.specs.Solve.{solveUnknown, zeroAfter}
+use Rattle.triangle_plan.proofs.WalkLaws.{walk-start, walk-next}
+use Rattle.triangle_plan.proofs.Systems.{ready-for}
+use Rattle.triangle_plan.proofs.Solves.{Clear, clear-start, clear-next, first-found, first-nowhere, vector-stopped, vector-done}
 use Rattle.triangle_real32.proofs.solve_vector.Statement.{statement}
 use Rattle.triangle_real32.proofs.solve_vector.Tie as tie
 

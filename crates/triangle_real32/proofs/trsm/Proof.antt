@@ -1,6 +1,6 @@
 use Rattle.number.specs.Kind.{real32}
-use Rattle.order.proofs.Judged.{matrix-runs}
-use Rattle.order.proofs.SolveKernels.{trsm-refused, trsm-done}
+use Rattle.triangle_plan.proofs.Judged.{matrix-runs}
+use Rattle.triangle_plan.proofs.SolveKernels.{trsm-refused, trsm-done}
 use borrow.Author.Needs.{needs}
 use Rattle.triangle_real32.proofs.trsm.Statement.{statement}
 use Rattle.triangle_real32.proofs.trsm.Tie as tie

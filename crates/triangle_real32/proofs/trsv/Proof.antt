@@ -3,12 +3,12 @@ use mathlib.Core.Path.{refl}
 use Rattle.number.specs.Kind.{real32}
 use Rattle.number.proofs.Instances.{real32-laws}
 use Rattle.view.specs.declared.Side.the-variants.{Left}
-use Rattle.order.proofs.Systems.{ready-made, one-line}
-use Rattle.order.proofs.Solves.{solved-gives}
-use Rattle.order.proofs.InOrder.{real-swaps}
+use Rattle.triangle_plan.proofs.Systems.{ready-made, one-line}
+use Rattle.triangle_plan.proofs.Solves.{solved-gives}
+use Rattle.triangle_plan.proofs.InOrder.{real-swaps}
 use Rattle.number.proofs.Commutes.{real-commutes}
-use Rattle.order.proofs.Judged.{vector-passed, vector-runs}
-use Rattle.order.proofs.SolveKernels.{trsv-refused, trsv-done}
+use Rattle.triangle_plan.proofs.Judged.{vector-passed, vector-runs}
+use Rattle.triangle_plan.proofs.SolveKernels.{trsv-refused, trsv-done}
 use borrow.Author.Needs.{needs}
 use Rattle.triangle_real32.proofs.trsv.Statement.{statement}
 use Rattle.triangle_real32.proofs.trsv.Tie as tie

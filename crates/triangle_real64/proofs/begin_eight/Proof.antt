@@ -1,5 +1,5 @@
 use Rattle.number.specs.Kind.{real64}
-use Rattle.order.proofs.Runs.{eight-then}
+use Rattle.triangle_plan.proofs.Runs.{eight-then}
 use borrow.Author.Needs.{needs}
 use Rattle.triangle_real64.proofs.begin_eight.Statement.{statement}
 use Rattle.triangle_real64.proofs.begin_eight.Tie as tie

@@ -4,7 +4,7 @@ use native.Mathlib.Omega.{arith}
 use lib.Ieee.{binary64}
 use Rattle.number.specs.Kind.{real64}
 use Rattle.number.proofs.Literals.{zero-literal}
-use Rattle.order.proofs.LineSums.{line-behind, line-before}
+use Rattle.triangle_plan.proofs.LineSums.{line-behind, line-before}
 use borrow.Author.Needs.{needs}
 use Rattle.triangle_real64.proofs.line_sum.Statement.{statement}
 use Rattle.triangle_real64.proofs.line_sum.Tie as tie

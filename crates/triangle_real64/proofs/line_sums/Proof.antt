@@ -3,9 +3,9 @@ use native.Mathlib.Omega.{arith}
 use lib.Ieee.{binary64}
 use Rattle.number.specs.Kind.{real64}
 use Rattle.number.proofs.Literals.{zero-literal}
-use Rattle.order.proofs.Systems.{run-spans}
+use Rattle.triangle_plan.proofs.Systems.{run-spans}
 use Rattle.slab.proofs.EightLaws.{eight-of}
-use Rattle.order.proofs.LineSums.{sums-behind, sums-before}
+use Rattle.triangle_plan.proofs.LineSums.{sums-behind, sums-before}
 use borrow.Author.Needs.{needs}
 use Rattle.triangle_real64.proofs.line_sums.Statement.{statement}
 use Rattle.triangle_real64.proofs.line_sums.Tie as tie

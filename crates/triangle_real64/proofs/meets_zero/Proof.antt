@@ -2,8 +2,8 @@ use Prim.Native.Nat.{ℕ, _<_}
 use mathlib.Core.Path.{sym, subst}
 use denote.Ref.{now}
 use Rattle.number.specs.Kind.{real64}
-use Rattle.order.proofs.Systems.{pivot-shown}
-use Rattle.order.proofs.Solves.{meets-is}
+use Rattle.triangle_plan.proofs.Systems.{pivot-shown}
+use Rattle.triangle_plan.proofs.Solves.{meets-is}
 use borrow.Author.Needs.{needs}
 use Rattle.triangle_real64.proofs.meets_zero.Statement.{statement}
 use Rattle.triangle_real64.proofs.meets_zero.Tie as tie

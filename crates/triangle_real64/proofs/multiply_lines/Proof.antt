@@ -3,10 +3,10 @@ use mathlib.Core.Path.{_≡_, refl, _∙_}
 use native.Mathlib.Omega.{arith}
 use lib.ListN.{length}
 use Rattle.number.specs.Kind.{real64}
-use Rattle.order.specs.Walk.{walk}
-use Rattle.order.specs.Multiply.{multiplyLine}
-use Rattle.order.proofs.Systems.{ready-kept}
-use Rattle.order.proofs.WalkLaws.{walk-start, walk-next, walk-end}
+use Rattle.triangle_plan.specs.Walk.{walk}
+use Rattle.triangle_plan.specs.Multiply.{multiplyLine}
+use Rattle.triangle_plan.proofs.Systems.{ready-kept}
+use Rattle.triangle_plan.proofs.WalkLaws.{walk-start, walk-next, walk-end}
 use Rattle.triangle_real64.proofs.multiply_lines.Statement.{statement}
 use Rattle.triangle_real64.proofs.multiply_lines.Tie as tie
 

@@ -2,8 +2,8 @@ use mathlib.Core.Path.{refl}
 use native.Mathlib.Omega.{arith}
 use Rattle.number.specs.Kind.{real64}
 use Rattle.slab.proofs.Shown.{shown, inside}
-use Rattle.order.proofs.Systems.{unknown-shown}
-use Rattle.order.proofs.Multiplies.{multiply-one-is}
+use Rattle.triangle_plan.proofs.Systems.{unknown-shown}
+use Rattle.triangle_plan.proofs.Multiplies.{multiply-one-is}
 use borrow.Author.Needs.{needs}
 use Rattle.triangle_real64.proofs.multiply_one.Statement.{statement}
 use Rattle.triangle_real64.proofs.multiply_one.Tie as tie

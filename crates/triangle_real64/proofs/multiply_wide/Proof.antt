@@ -5,12 +5,12 @@ use lib.Ieee.{binary64}
 use lib.ListN.{length}
 use Rattle.number.specs.Kind.{real64}
 use Rattle.number.proofs.Instances.{real64-laws}
-use Rattle.order.specs.Walk.{walk}
-use Rattle.order.specs.Multiply.{multiplyAcross}
-use Rattle.order.proofs.InOrder.{real-swaps}
-use Rattle.order.proofs.Lines.{element-after-element}
-use Rattle.order.proofs.Systems.{ready-kept}
-use Rattle.order.proofs.WalkLaws.{walk-start, walk-next, walk-end}
+use Rattle.triangle_plan.specs.Walk.{walk}
+use Rattle.triangle_plan.specs.Multiply.{multiplyAcross}
+use Rattle.triangle_plan.proofs.InOrder.{real-swaps}
+use Rattle.triangle_plan.proofs.Lines.{element-after-element}
+use Rattle.triangle_plan.proofs.Systems.{ready-kept}
+use Rattle.triangle_plan.proofs.WalkLaws.{walk-start, walk-next, walk-end}
 use Rattle.triangle_real64.proofs.multiply_wide.Statement.{statement}
 use Rattle.triangle_real64.proofs.multiply_wide.Tie as tie
 

@@ -3,8 +3,8 @@ use native.Mathlib.Omega.{arith}
 use lib.Ieee.{binary64}
 use Rattle.number.specs.Kind.{real64}
 use Rattle.number.proofs.Literals.{zero-literal}
-use Rattle.order.proofs.Systems.{run-spans}
-use Rattle.order.proofs.LineSums.{own-first-is}
+use Rattle.triangle_plan.proofs.Systems.{run-spans}
+use Rattle.triangle_plan.proofs.LineSums.{own-first-is}
 use borrow.Author.Needs.{needs}
 use Rattle.triangle_real64.proofs.own_first.Statement.{statement}
 use Rattle.triangle_real64.proofs.own_first.Tie as tie

@@ -1,8 +1,8 @@
 use denote.Ref.{now}
 use native.Mathlib.Omega.{arith}
 use Rattle.number.specs.Kind.{real64}
-use Rattle.order.proofs.Systems.{run-spans}
-use Rattle.order.proofs.LineSums.{own-last-is}
+use Rattle.triangle_plan.proofs.Systems.{run-spans}
+use Rattle.triangle_plan.proofs.LineSums.{own-last-is}
 use borrow.Author.Needs.{needs}
 use Rattle.triangle_real64.proofs.own_last.Statement.{statement}
 use Rattle.triangle_real64.proofs.own_last.Tie as tie

@@ -4,9 +4,9 @@ use native.Mathlib.Omega.{arith}
 use lib.ListN.{length}
 use Rattle.number.specs.Kind.{real64}
 use Rattle.slab.proofs.Shown.{shown, inside}
-use Rattle.order.specs.Eights.{putEight}
-use Rattle.order.proofs.WalkLaws.{walk-start, walk-next, walk-end}
-use Rattle.order.proofs.Systems.{in-row}
+use Rattle.triangle_plan.specs.Eights.{putEight}
+use Rattle.triangle_plan.proofs.WalkLaws.{walk-start, walk-next, walk-end}
+use Rattle.triangle_plan.proofs.Systems.{in-row}
 use Rattle.triangle_real64.proofs.put_eight.Statement.{statement}
 use Rattle.triangle_real64.proofs.put_eight.Tie as tie
 

@@ -1,6 +1,6 @@
 use Rattle.slab.proofs.LoopLaws.{row-next, row-last}
 use Rattle.slab.specs.Update.{updateRow, everywhere}
-use Rattle.order.proofs.Systems.{in-row}
+use Rattle.triangle_plan.proofs.Systems.{in-row}
 use Rattle.number.specs.Kind.{real64}
 use borrow.Author.Needs.{needs}
 use lib.ListN.{length}

@@ -1,11 +1,11 @@
 use lib.Ieee.{binary64}
 use Rattle.number.specs.Kind.{real64}
 use Rattle.number.proofs.Instances.{real64-laws}
-use Rattle.order.proofs.InOrder.{real-swaps}
+use Rattle.triangle_plan.proofs.InOrder.{real-swaps}
 use Rattle.number.proofs.Commutes.{real-commutes}
-use Rattle.order.proofs.Systems.{ready-made}
-use Rattle.order.proofs.Solves.{solved-gives}
-use Rattle.order.proofs.SolveKernels.{sided-gives}
+use Rattle.triangle_plan.proofs.Systems.{ready-made}
+use Rattle.triangle_plan.proofs.Solves.{solved-gives}
+use Rattle.triangle_plan.proofs.SolveKernels.{sided-gives}
 use borrow.Author.Needs.{needs}
 use Rattle.triangle_real64.proofs.sided.Statement.{statement}
 use Rattle.triangle_real64.proofs.sided.Tie as tie

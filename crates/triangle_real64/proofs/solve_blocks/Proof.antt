@@ -3,11 +3,11 @@ use mathlib.Core.Path.{_≡_, refl, _∙_}
 use native.Mathlib.Omega.{arith}
 use lib.ListN.{length}
 use Rattle.number.specs.Kind.{real64}
-use Rattle.order.specs.Walk.{walk}
-use Rattle.order.specs.Triangles.{timesIf}
-use Rattle.order.specs.Solve.{solveUnknown}
-use Rattle.order.proofs.WalkLaws.{walk-start, walk-block, walk-end}
-use Rattle.order.proofs.Systems.{ready-for}
+use Rattle.triangle_plan.specs.Walk.{walk}
+use Rattle.triangle_plan.specs.Triangles.{timesIf}
+use Rattle.triangle_plan.specs.Solve.{solveUnknown}
+use Rattle.triangle_plan.proofs.WalkLaws.{walk-start, walk-block, walk-end}
+use Rattle.triangle_plan.proofs.Systems.{ready-for}
 use Rattle.triangle_real64.proofs.solve_blocks.Statement.{statement}
 use Rattle.triangle_real64.proofs.solve_blocks.Tie as tie
 

@@ -1,5 +1,5 @@
 use Rattle.number.specs.Kind.{real64}
-use Rattle.order.proofs.Solves.{lines-in, unknowns-in, lines-solved}
+use Rattle.triangle_plan.proofs.Solves.{lines-in, unknowns-in, lines-solved}
 use borrow.Author.Needs.{needs}
 use Rattle.triangle_real64.proofs.solve_many.Statement.{statement}
 use Rattle.triangle_real64.proofs.solve_many.Tie as tie

@@ -2,11 +2,11 @@ use lib.Ieee.{binary64}
 use mathlib.Core.Path.{refl}
 use Rattle.number.specs.Kind.{real64}
 use Rattle.number.proofs.Instances.{real64-laws}
-use Rattle.order.proofs.InOrder.{real-swaps}
+use Rattle.triangle_plan.proofs.InOrder.{real-swaps}
 use Rattle.number.proofs.Commutes.{real-commutes}
-use Rattle.order.proofs.Judged.{matrix-runs}
-use Rattle.order.proofs.ProductKernels.{trmm-refused, trmm-done}
-use Rattle.order.proofs.Systems.{ready-made}
+use Rattle.triangle_plan.proofs.Judged.{matrix-runs}
+use Rattle.triangle_plan.proofs.ProductKernels.{trmm-refused, trmm-done}
+use Rattle.triangle_plan.proofs.Systems.{ready-made}
 use borrow.Author.Needs.{needs}
 use Rattle.triangle_real64.proofs.trmm.Statement.{statement}
 use Rattle.triangle_real64.proofs.trmm.Tie as tie

@@ -2,11 +2,11 @@ use lib.Ieee.{binary64}
 use mathlib.Core.Path.{refl}
 use Rattle.number.specs.Kind.{real64}
 use Rattle.number.proofs.Instances.{real64-laws}
-use Rattle.order.proofs.InOrder.{real-swaps}
+use Rattle.triangle_plan.proofs.InOrder.{real-swaps}
 use Rattle.number.proofs.Commutes.{real-commutes}
-use Rattle.order.proofs.Judged.{vector-passed, vector-runs}
-use Rattle.order.proofs.ProductKernels.{trmv-refused, trmv-done}
-use Rattle.order.proofs.Systems.{ready-made, one-line}
+use Rattle.triangle_plan.proofs.Judged.{vector-passed, vector-runs}
+use Rattle.triangle_plan.proofs.ProductKernels.{trmv-refused, trmv-done}
+use Rattle.triangle_plan.proofs.Systems.{ready-made, one-line}
 use borrow.Author.Needs.{needs}
 use Rattle.triangle_real64.proofs.trmv.Statement.{statement}
 use Rattle.triangle_real64.proofs.trmv.Tie as tie

@@ -3,8 +3,8 @@ use denote.Ref.{now}
 use native.Mathlib.Omega.{arith}
 use Rattle.number.specs.Kind.{real64}
 use Rattle.number.proofs.Instances.{real64-laws}
-use Rattle.order.proofs.Systems.{unknown-shown}
-use Rattle.order.proofs.Rows.{rows-eight-is}
+use Rattle.triangle_plan.proofs.Systems.{unknown-shown}
+use Rattle.triangle_plan.proofs.Rows.{rows-eight-is}
 use borrow.Author.Needs.{needs}
 use Rattle.triangle_real64.proofs.vector_block.Statement.{statement}
 use Rattle.triangle_real64.proofs.vector_block.Tie as tie

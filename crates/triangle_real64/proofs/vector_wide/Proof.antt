@@ -3,11 +3,11 @@ use mathlib.Core.Path.{_≡_, refl, _∙_}
 use native.Mathlib.Omega.{arith}
 use lib.ListN.{length}
 use Rattle.number.specs.Kind.{real64}
-use Rattle.order.specs.Walk.{walk}
-use Rattle.order.specs.Multiply.{multiplyOne}
-use Rattle.order.proofs.WalkLaws.{walk-start, walk-block, walk-end}
-use Rattle.order.proofs.Systems.{ready-kept}
-use Rattle.order.proofs.Multiplies.{only-line}
+use Rattle.triangle_plan.specs.Walk.{walk}
+use Rattle.triangle_plan.specs.Multiply.{multiplyOne}
+use Rattle.triangle_plan.proofs.WalkLaws.{walk-start, walk-block, walk-end}
+use Rattle.triangle_plan.proofs.Systems.{ready-kept}
+use Rattle.triangle_plan.proofs.Multiplies.{only-line}
 use Rattle.triangle_real64.proofs.vector_wide.Statement.{statement}
 use Rattle.triangle_real64.proofs.vector_wide.Tie as tie
 

@@ -5,8 +5,8 @@ use lib.IntN.{pos}
 use mir.Syntax.{w64}
 use mir.Facts.{toZ-ofZ}
 use Rattle.view.specs.declared.View.{View}
-use Rattle.view.specs.VectorLaws.{upright-start, upright-stride}
-use Rattle.view.specs.JudgeLaws.{vector-sizes}
+use Rattle.view.proofs.VectorLaws.{upright-start, upright-stride}
+use Rattle.view.proofs.JudgeLaws.{vector-sizes}
 use Rattle.view.proofs.column.Statement.{statement}
 use Rattle.view.proofs.column.Tie as tie
 
