@@ -9,15 +9,15 @@ ghost use Rattle.view.specs.Place.{viewOf, opViewOf};
 ghost use Rattle.view.specs.Checks as specs;
 ghost use Rattle.call_check.specs.Quick.{quickGemv, quickHemv, quickHer, quickHer2, quickTrmv, quickGemm, quickSymm, quickSyrk, quickSyr2k, quickTrmm};
 use crate::shapes;
-use view_check::out_of_bounds;
-use view_check::overlap;
-use view_check::too_large;
 use view::Answer;
 use view::Side;
 use view::Trans;
 use view::View;
 use view::number;
 use view::view_of;
+use view_check::out_of_bounds;
+use view_check::overlap;
+use view_check::too_large;
 
 // Whether one of three tests passed.
 fn one_of(p: bool, q: bool, r: bool) -> bool

@@ -4,10 +4,10 @@ ghost use mathlib.Core.Path.{_≡_};
 ghost use mathlib.Core.Bool.{true};
 ghost use Rattle.call_check.specs.Quick as specs;
 use crate::shapes;
-use view_check::LIMIT;
 use view::Side;
 use view::Trans;
 use view::View;
+use view_check::LIMIT;
 
 // Whether n is at least 1 and within the limit.
 fn few(n: usize) -> bool

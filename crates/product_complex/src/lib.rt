@@ -49,12 +49,12 @@ use product_plan::left_plan;
 use product_plan::right_plan;
 use product_plan::syrk_plan;
 use product_plan::turn_at;
-use slab::add_four;
 use slab::block_start;
-use slab::elem_complex;
-use slab::get_complex;
-use slab::put_complex;
-use slab::sum_of_four;
+use slab::complex::add_four;
+use slab::complex::elem;
+use slab::complex::get;
+use slab::complex::put;
+use slab::complex::sum_of_four;
 use view::Answer;
 use view::Side;
 use view::Trans;
@@ -74,7 +74,7 @@ fn at(conjugated: bool, s: &[f64], v: View, i: usize, j: usize) -> Complex
     requires { ⌜ Within v (complex .count (now s)) i j ⌝ }
     ensures { λ r. ⌜ r ≡ elemConj complex conjugated (now (s .entry)) v i j ⌝ }
 {
-    let x = elem_complex(s, v, i, j);
+    let x = elem(s, v, i, j);
     if conjugated { x.conj() } else { x }
 }
 
@@ -118,7 +118,7 @@ fn add_left(
     let mut total = sum;
     let mut p = from;
     while p < end {
-        total = total.add(at(f.left_conj, a, f.left, i, p).mul(elem_complex(b, f.right, p, j)));
+        total = total.add(at(f.left_conj, a, f.left, i, p).mul(elem(b, f.right, p, j)));
         p += 1;
     }
     total
@@ -138,8 +138,8 @@ fn settle(
     ensures { λ _. ⌜ now (c .exit) ≡ replaced complex v i j (λ x. complex .add (scaleByComplex beta x) (times alpha sum)) (now (c .entry)) ⌝ }
 {
     let k = place(v, i, j);
-    let old = get_complex(c, k);
-    put_complex(c, k, beta.scale(old).add(alpha.times(sum)));
+    let old = get(c, k);
+    put(c, k, beta.scale(old).add(alpha.times(sum)));
 }
 
 // Element (i, j) of the target.

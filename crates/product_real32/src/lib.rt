@@ -50,13 +50,13 @@ use product_plan::left_plan;
 use product_plan::right_plan;
 use product_plan::syrk_plan;
 use product_plan::turn_at;
-use slab::add_beside32;
-use slab::add_eight32;
 use slab::block_end;
 use slab::block_start;
-use slab::elem32;
-use slab::get32;
-use slab::put32;
+use slab::real32::elem;
+use slab::real32::get;
+use slab::real32::plus_beside;
+use slab::real32::plus_eight;
+use slab::real32::put;
 use view::Answer;
 use view::Side;
 use view::Trans;
@@ -89,7 +89,7 @@ fn add_run(
     let mut total = sum;
     let mut p = from;
     while p < end {
-        total = total.add(elem32(a, f.left, i, p).mul(elem32(b, f.right, p, j)));
+        total = total.add(elem(a, f.left, i, p).mul(elem(b, f.right, p, j)));
         p += 1;
     }
     total
@@ -101,8 +101,8 @@ fn settle(v: View, alpha: Real32, beta: Beta32, c: &mut [f32], i: usize, j: usiz
     ensures { λ _. ⌜ now (c .exit) ≡ replaced real32 v i j (λ x. real32 .add (scaleBy32 beta x) (real32 .mul (alpha .0) (sum .0))) (now (c .entry)) ⌝ }
 {
     let k = place(v, i, j);
-    let old = get32(c, k);
-    put32(c, k, beta.scale(old).add(alpha.mul(sum)));
+    let old = get(c, k);
+    put(c, k, beta.scale(old).add(alpha.mul(sum)));
 }
 
 // Element (i, j) of the target.
@@ -140,7 +140,7 @@ fn add_beside(
     let mut totals = sums;
     let mut p = from;
     while p < end {
-        let next = add_beside32(elem32(a, f.left, i, p), b, place(f.right, p, j), totals);
+        let next = plus_beside(elem(a, f.left, i, p), b, place(f.right, p, j), totals);
         totals = next;
         p += 1;
     }
@@ -164,7 +164,7 @@ fn add_apart(
     let mut totals = sums;
     let mut p = from;
     while p < end {
-        let next = add_eight32(elem32(a, f.left, i, p), b, f.right, p, j, totals);
+        let next = plus_eight(elem(a, f.left, i, p), b, f.right, p, j, totals);
         totals = next;
         p += 1;
     }
@@ -309,7 +309,7 @@ fn column_sums(plan: Plan, a: &[f32], b: &[f32], i: usize) -> [f32; 8]
     let mut sums = [0.0; 8];
     let mut p = 0;
     while p < n {
-        let next = add_eight32(elem32(b, plan.factors.right, p, 0), a, v, p, i, sums);
+        let next = plus_eight(elem(b, plan.factors.right, p, 0), a, v, p, i, sums);
         sums = next;
         p += 1;
     }
@@ -696,9 +696,9 @@ fn folded_term(plan: Folded, k: usize, a: &[f32], b: &[f32], i: usize, j: usize,
     ensures { λ r. ⌜ r .0 ≡ foldedTerm real32 plan (now (a .entry)) (now (b .entry)) i j p ⌝ }
 {
     if p < k {
-        elem32(a, plan.head.left, i, p).mul(elem32(b, plan.head.right, p, j))
+        elem(a, plan.head.left, i, p).mul(elem(b, plan.head.right, p, j))
     } else {
-        elem32(a, plan.tail.left, i, p).mul(elem32(b, plan.tail.right, p, j))
+        elem(a, plan.tail.left, i, p).mul(elem(b, plan.tail.right, p, j))
     }
 }
 

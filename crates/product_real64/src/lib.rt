@@ -50,13 +50,13 @@ use product_plan::left_plan;
 use product_plan::right_plan;
 use product_plan::syrk_plan;
 use product_plan::turn_at;
-use slab::add_beside64;
-use slab::add_eight64;
 use slab::block_end;
 use slab::block_start;
-use slab::elem64;
-use slab::get64;
-use slab::put64;
+use slab::real64::elem;
+use slab::real64::get;
+use slab::real64::plus_beside;
+use slab::real64::plus_eight;
+use slab::real64::put;
 use view::Answer;
 use view::Side;
 use view::Trans;
@@ -89,7 +89,7 @@ fn add_run(
     let mut total = sum;
     let mut p = from;
     while p < end {
-        total = total.add(elem64(a, f.left, i, p).mul(elem64(b, f.right, p, j)));
+        total = total.add(elem(a, f.left, i, p).mul(elem(b, f.right, p, j)));
         p += 1;
     }
     total
@@ -101,8 +101,8 @@ fn settle(v: View, alpha: Real64, beta: Beta64, c: &mut [f64], i: usize, j: usiz
     ensures { λ _. ⌜ now (c .exit) ≡ replaced real64 v i j (λ x. real64 .add (scaleBy64 beta x) (real64 .mul (alpha .0) (sum .0))) (now (c .entry)) ⌝ }
 {
     let k = place(v, i, j);
-    let old = get64(c, k);
-    put64(c, k, beta.scale(old).add(alpha.mul(sum)));
+    let old = get(c, k);
+    put(c, k, beta.scale(old).add(alpha.mul(sum)));
 }
 
 // Element (i, j) of the target.
@@ -140,7 +140,7 @@ fn add_beside(
     let mut totals = sums;
     let mut p = from;
     while p < end {
-        let next = add_beside64(elem64(a, f.left, i, p), b, place(f.right, p, j), totals);
+        let next = plus_beside(elem(a, f.left, i, p), b, place(f.right, p, j), totals);
         totals = next;
         p += 1;
     }
@@ -164,7 +164,7 @@ fn add_apart(
     let mut totals = sums;
     let mut p = from;
     while p < end {
-        let next = add_eight64(elem64(a, f.left, i, p), b, f.right, p, j, totals);
+        let next = plus_eight(elem(a, f.left, i, p), b, f.right, p, j, totals);
         totals = next;
         p += 1;
     }
@@ -309,7 +309,7 @@ fn column_sums(plan: Plan, a: &[f64], b: &[f64], i: usize) -> [f64; 8]
     let mut sums = [0.0; 8];
     let mut p = 0;
     while p < n {
-        let next = add_eight64(elem64(b, plan.factors.right, p, 0), a, v, p, i, sums);
+        let next = plus_eight(elem(b, plan.factors.right, p, 0), a, v, p, i, sums);
         sums = next;
         p += 1;
     }
@@ -696,9 +696,9 @@ fn folded_term(plan: Folded, k: usize, a: &[f64], b: &[f64], i: usize, j: usize,
     ensures { λ r. ⌜ r .0 ≡ foldedTerm real64 plan (now (a .entry)) (now (b .entry)) i j p ⌝ }
 {
     if p < k {
-        elem64(a, plan.head.left, i, p).mul(elem64(b, plan.head.right, p, j))
+        elem(a, plan.head.left, i, p).mul(elem(b, plan.head.right, p, j))
     } else {
-        elem64(a, plan.tail.left, i, p).mul(elem64(b, plan.tail.right, p, j))
+        elem(a, plan.tail.left, i, p).mul(elem(b, plan.tail.right, p, j))
     }
 }
 

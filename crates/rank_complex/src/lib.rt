@@ -28,9 +28,9 @@ use number::Complex;
 use rank_plan::Plan;
 use rank_plan::her2k_plan;
 use rank_plan::syr2k_plan;
-use slab::elem_complex;
-use slab::get_complex;
-use slab::put_complex;
+use slab::complex::elem;
+use slab::complex::get;
+use slab::complex::put;
 use view::Answer;
 use view::Trans;
 use view::UpLo;
@@ -48,7 +48,7 @@ fn read(conj: bool, s: &[f64], v: View, i: usize, j: usize) -> Complex
     requires { ⌜ Within v (complex .count (now s)) i j ⌝ }
     ensures { λ r. ⌜ r ≡ elemConj complex conj (now (s .entry)) v i j ⌝ }
 {
-    let x = elem_complex(s, v, i, j);
+    let x = elem(s, v, i, j);
     if conj { x.conj() } else { x }
 }
 
@@ -58,9 +58,9 @@ fn her_entry(w: Complex, x: &[f64], vx: View, a: &mut [f64], va: View, i: usize,
     ensures { λ _. ⌜ now (a .exit) ≡ replaced complex va i j (addOne complex w (elem complex (now (x .entry)) vx) j) (now (a .entry)) ⌝ }
 {
     let t = place(va, i, j);
-    let old = get_complex(a, t);
-    let term = w.mul(elem_complex(x, vx, j, 0).conj());
-    put_complex(a, t, old.add(term));
+    let old = get(a, t);
+    let term = w.mul(elem(x, vx, j, 0).conj());
+    put(a, t, old.add(term));
 }
 
 // Row i of her's target, which has as many columns as rows.
@@ -68,7 +68,7 @@ fn her_row(uplo: UpLo, alpha: f64, x: &[f64], vx: View, a: &mut [f64], va: View,
     requires { ⌜ One vx (complex .count (now x)) va (complex .count (now a)) × (i < va .rows) ⌝ }
     ensures { λ _. ⌜ now (a .exit) ≡ updateRow complex va (inTriangle uplo) (Her.herChange complex alpha (elem complex (now (x .entry)) vx)) i (va .cols) (now (a .entry)) ⌝ }
 {
-    let w = elem_complex(x, vx, i, 0).scale_real(alpha);
+    let w = elem(x, vx, i, 0).scale_real(alpha);
     let end = end_col(uplo, i, rows(va));
     let mut j = first_col(uplo, i);
     while j < end {
@@ -107,10 +107,10 @@ fn her2_entry(
     ensures { λ _. ⌜ now (a .exit) ≡ replaced complex va i j (addTwo complex w w2 (elem complex (now (x .entry)) vx) (elem complex (now (y .entry)) vy) j) (now (a .entry)) ⌝ }
 {
     let t = place(va, i, j);
-    let old = get_complex(a, t);
-    let first = w.mul(elem_complex(y, vy, j, 0).conj());
-    let second = w2.mul(elem_complex(x, vx, j, 0).conj());
-    put_complex(a, t, old.add(first).add(second));
+    let old = get(a, t);
+    let first = w.mul(elem(y, vy, j, 0).conj());
+    let second = w2.mul(elem(x, vx, j, 0).conj());
+    put(a, t, old.add(first).add(second));
 }
 
 // Row i of her2's target.
@@ -128,9 +128,9 @@ fn her2_row(
     requires { ⌜ Two vx (complex .count (now x)) vy (complex .count (now y)) va (complex .count (now a)) × (i < va .rows) ⌝ }
     ensures { λ _. ⌜ now (a .exit) ≡ updateRow complex va (inTriangle uplo) (Her2.her2Change complex alpha (elem complex (now (x .entry)) vx) (elem complex (now (y .entry)) vy)) i (va .cols) (now (a .entry)) ⌝ }
 {
-    let w = alpha.mul(elem_complex(x, vx, i, 0));
+    let w = alpha.mul(elem(x, vx, i, 0));
     let conjugate = alpha.conj();
-    let w2 = conjugate.mul(elem_complex(y, vy, i, 0));
+    let w2 = conjugate.mul(elem(y, vy, i, 0));
     let end = end_col(uplo, i, cols(va));
     let mut j = first_col(uplo, i);
     while j < end {
@@ -241,9 +241,9 @@ fn syr2k_entry(
     ensures { λ _. ⌜ now (c .exit) ≡ replaced complex (plan .target) i j (syr2kChange complex plan (now (a .entry)) (now (b .entry)) alpha (scaleByComplex beta) i j) (now (c .entry)) ⌝ }
 {
     let k = place(plan.target, i, j);
-    let old = beta.scale(get_complex(c, k));
+    let old = beta.scale(get(c, k));
     let sum = pair_sum(plan, a, b, i, j);
-    put_complex(c, k, old.add(alpha.mul(sum)));
+    put(c, k, old.add(alpha.mul(sum)));
 }
 
 // Row i of syr2k's target.
@@ -296,9 +296,9 @@ fn her2k_entry(
     ensures { λ _. ⌜ now (c .exit) ≡ replaced complex (plan .target) i j (her2kChange complex plan (now (a .entry)) (now (b .entry)) alpha (scaleByComplex beta) i j) (now (c .entry)) ⌝ }
 {
     let k = place(plan.target, i, j);
-    let old = beta.scale(get_complex(c, k));
+    let old = beta.scale(get(c, k));
     let sum = weighed_sum(alpha, plan, a, b, i, j);
-    put_complex(c, k, old.add(sum));
+    put(c, k, old.add(sum));
 }
 
 // Row i of her2k's target.

@@ -29,12 +29,12 @@ use number::Real32;
 use rank_plan::Plan;
 use rank_plan::her2k_plan;
 use rank_plan::syr2k_plan;
-use slab::add_eight32;
 use slab::block_end;
 use slab::block_start;
-use slab::elem32;
-use slab::get32;
-use slab::put32;
+use slab::real32::elem;
+use slab::real32::get;
+use slab::real32::plus_eight;
+use slab::real32::put;
 use view::Answer;
 use view::Trans;
 use view::UpLo;
@@ -52,7 +52,7 @@ fn read(conj: bool, s: &[f32], v: View, i: usize, j: usize) -> Real32
     requires { ⌜ Within v (real32 .count (now s)) i j ⌝ }
     ensures { λ r. ⌜ r .0 ≡ elemConj real32 conj (now (s .entry)) v i j ⌝ }
 {
-    let x = elem32(s, v, i, j);
+    let x = elem(s, v, i, j);
     if conj { x.conj() } else { x }
 }
 
@@ -62,9 +62,9 @@ fn her_entry(w: Real32, x: &[f32], vx: View, a: &mut [f32], va: View, i: usize, 
     ensures { λ _. ⌜ now (a .exit) ≡ replaced real32 va i j (addOne real32 (w .0) (elem real32 (now (x .entry)) vx) j) (now (a .entry)) ⌝ }
 {
     let t = place(va, i, j);
-    let old = get32(a, t);
-    let term = w.mul(elem32(x, vx, j, 0).conj());
-    put32(a, t, old.add(term));
+    let old = get(a, t);
+    let term = w.mul(elem(x, vx, j, 0).conj());
+    put(a, t, old.add(term));
 }
 
 // Row i of her's target, which has as many columns as rows.
@@ -72,7 +72,7 @@ fn her_row(uplo: UpLo, alpha: f32, x: &[f32], vx: View, a: &mut [f32], va: View,
     requires { ⌜ One vx (real32 .count (now x)) va (real32 .count (now a)) × (i < va .rows) ⌝ }
     ensures { λ _. ⌜ now (a .exit) ≡ updateRow real32 va (inTriangle uplo) (Her.herChange real32 alpha (elem real32 (now (x .entry)) vx)) i (va .cols) (now (a .entry)) ⌝ }
 {
-    let w = elem32(x, vx, i, 0).scale_real(alpha);
+    let w = elem(x, vx, i, 0).scale_real(alpha);
     let end = end_col(uplo, i, rows(va));
     let mut j = first_col(uplo, i);
     while j < end {
@@ -111,10 +111,10 @@ fn her2_entry(
     ensures { λ _. ⌜ now (a .exit) ≡ replaced real32 va i j (addTwo real32 (w .0) (w2 .0) (elem real32 (now (x .entry)) vx) (elem real32 (now (y .entry)) vy) j) (now (a .entry)) ⌝ }
 {
     let t = place(va, i, j);
-    let old = get32(a, t);
-    let first = w.mul(elem32(y, vy, j, 0).conj());
-    let second = w2.mul(elem32(x, vx, j, 0).conj());
-    put32(a, t, old.add(first).add(second));
+    let old = get(a, t);
+    let first = w.mul(elem(y, vy, j, 0).conj());
+    let second = w2.mul(elem(x, vx, j, 0).conj());
+    put(a, t, old.add(first).add(second));
 }
 
 // Row i of her2's target.
@@ -132,9 +132,9 @@ fn her2_row(
     requires { ⌜ Two vx (real32 .count (now x)) vy (real32 .count (now y)) va (real32 .count (now a)) × (i < va .rows) ⌝ }
     ensures { λ _. ⌜ now (a .exit) ≡ updateRow real32 va (inTriangle uplo) (Her2.her2Change real32 (alpha .0) (elem real32 (now (x .entry)) vx) (elem real32 (now (y .entry)) vy)) i (va .cols) (now (a .entry)) ⌝ }
 {
-    let w = alpha.mul(elem32(x, vx, i, 0));
+    let w = alpha.mul(elem(x, vx, i, 0));
     let conjugate = alpha.conj();
-    let w2 = conjugate.mul(elem32(y, vy, i, 0));
+    let w2 = conjugate.mul(elem(y, vy, i, 0));
     let end = end_col(uplo, i, cols(va));
     let mut j = first_col(uplo, i);
     while j < end {
@@ -236,8 +236,8 @@ fn settle(beta: Beta32, more: Real32, c: &mut [f32], v: View, i: usize, j: usize
     ensures { λ _. ⌜ now (c .exit) ≡ replaced real32 v i j (λ old. real32 .add (scaleBy32 beta old) (more .0)) (now (c .entry)) ⌝ }
 {
     let k = place(v, i, j);
-    let old = beta.scale(get32(c, k));
-    put32(c, k, old.add(more));
+    let old = beta.scale(get(c, k));
+    put(c, k, old.add(more));
 }
 
 // Element (i, j) of syr2k's target.
@@ -345,8 +345,8 @@ fn add_both(
     requires { ⌜ Within vb (real32 .count (now b)) p (j + 7) × Within va (real32 .count (now a)) p (j + 7) ⌝ }
     ensures { λ r. ⌜ Eight real32 r (λ t. real32 .add (real32 .add (real32 .at sums t) (real32 .mul (x .0) (elem real32 (now (b .entry)) vb p (j + t)))) (real32 .mul (y .0) (elem real32 (now (a .entry)) va p (j + t)))) ⌝ }
 {
-    let first = add_eight32(x, b, vb, p, j, sums);
-    add_eight32(y, a, va, p, j, first)
+    let first = plus_eight(x, b, vb, p, j, sums);
+    plus_eight(y, a, va, p, j, first)
 }
 
 // Each of eight sums, those of the columns from j on, with the two products at p added one after the other.

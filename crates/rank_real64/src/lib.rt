@@ -29,12 +29,12 @@ use number::Real64;
 use rank_plan::Plan;
 use rank_plan::her2k_plan;
 use rank_plan::syr2k_plan;
-use slab::add_eight64;
 use slab::block_end;
 use slab::block_start;
-use slab::elem64;
-use slab::get64;
-use slab::put64;
+use slab::real64::elem;
+use slab::real64::get;
+use slab::real64::plus_eight;
+use slab::real64::put;
 use view::Answer;
 use view::Trans;
 use view::UpLo;
@@ -52,7 +52,7 @@ fn read(conj: bool, s: &[f64], v: View, i: usize, j: usize) -> Real64
     requires { ⌜ Within v (real64 .count (now s)) i j ⌝ }
     ensures { λ r. ⌜ r .0 ≡ elemConj real64 conj (now (s .entry)) v i j ⌝ }
 {
-    let x = elem64(s, v, i, j);
+    let x = elem(s, v, i, j);
     if conj { x.conj() } else { x }
 }
 
@@ -62,9 +62,9 @@ fn her_entry(w: Real64, x: &[f64], vx: View, a: &mut [f64], va: View, i: usize, 
     ensures { λ _. ⌜ now (a .exit) ≡ replaced real64 va i j (addOne real64 (w .0) (elem real64 (now (x .entry)) vx) j) (now (a .entry)) ⌝ }
 {
     let t = place(va, i, j);
-    let old = get64(a, t);
-    let term = w.mul(elem64(x, vx, j, 0).conj());
-    put64(a, t, old.add(term));
+    let old = get(a, t);
+    let term = w.mul(elem(x, vx, j, 0).conj());
+    put(a, t, old.add(term));
 }
 
 // Row i of her's target, which has as many columns as rows.
@@ -72,7 +72,7 @@ fn her_row(uplo: UpLo, alpha: f64, x: &[f64], vx: View, a: &mut [f64], va: View,
     requires { ⌜ One vx (real64 .count (now x)) va (real64 .count (now a)) × (i < va .rows) ⌝ }
     ensures { λ _. ⌜ now (a .exit) ≡ updateRow real64 va (inTriangle uplo) (Her.herChange real64 alpha (elem real64 (now (x .entry)) vx)) i (va .cols) (now (a .entry)) ⌝ }
 {
-    let w = elem64(x, vx, i, 0).scale_real(alpha);
+    let w = elem(x, vx, i, 0).scale_real(alpha);
     let end = end_col(uplo, i, rows(va));
     let mut j = first_col(uplo, i);
     while j < end {
@@ -111,10 +111,10 @@ fn her2_entry(
     ensures { λ _. ⌜ now (a .exit) ≡ replaced real64 va i j (addTwo real64 (w .0) (w2 .0) (elem real64 (now (x .entry)) vx) (elem real64 (now (y .entry)) vy) j) (now (a .entry)) ⌝ }
 {
     let t = place(va, i, j);
-    let old = get64(a, t);
-    let first = w.mul(elem64(y, vy, j, 0).conj());
-    let second = w2.mul(elem64(x, vx, j, 0).conj());
-    put64(a, t, old.add(first).add(second));
+    let old = get(a, t);
+    let first = w.mul(elem(y, vy, j, 0).conj());
+    let second = w2.mul(elem(x, vx, j, 0).conj());
+    put(a, t, old.add(first).add(second));
 }
 
 // Row i of her2's target.
@@ -132,9 +132,9 @@ fn her2_row(
     requires { ⌜ Two vx (real64 .count (now x)) vy (real64 .count (now y)) va (real64 .count (now a)) × (i < va .rows) ⌝ }
     ensures { λ _. ⌜ now (a .exit) ≡ updateRow real64 va (inTriangle uplo) (Her2.her2Change real64 (alpha .0) (elem real64 (now (x .entry)) vx) (elem real64 (now (y .entry)) vy)) i (va .cols) (now (a .entry)) ⌝ }
 {
-    let w = alpha.mul(elem64(x, vx, i, 0));
+    let w = alpha.mul(elem(x, vx, i, 0));
     let conjugate = alpha.conj();
-    let w2 = conjugate.mul(elem64(y, vy, i, 0));
+    let w2 = conjugate.mul(elem(y, vy, i, 0));
     let end = end_col(uplo, i, cols(va));
     let mut j = first_col(uplo, i);
     while j < end {
@@ -236,8 +236,8 @@ fn settle(beta: Beta64, more: Real64, c: &mut [f64], v: View, i: usize, j: usize
     ensures { λ _. ⌜ now (c .exit) ≡ replaced real64 v i j (λ old. real64 .add (scaleBy64 beta old) (more .0)) (now (c .entry)) ⌝ }
 {
     let k = place(v, i, j);
-    let old = beta.scale(get64(c, k));
-    put64(c, k, old.add(more));
+    let old = beta.scale(get(c, k));
+    put(c, k, old.add(more));
 }
 
 // Element (i, j) of syr2k's target.
@@ -345,8 +345,8 @@ fn add_both(
     requires { ⌜ Within vb (real64 .count (now b)) p (j + 7) × Within va (real64 .count (now a)) p (j + 7) ⌝ }
     ensures { λ r. ⌜ Eight real64 r (λ t. real64 .add (real64 .add (real64 .at sums t) (real64 .mul (x .0) (elem real64 (now (b .entry)) vb p (j + t)))) (real64 .mul (y .0) (elem real64 (now (a .entry)) va p (j + t)))) ⌝ }
 {
-    let first = add_eight64(x, b, vb, p, j, sums);
-    add_eight64(y, a, va, p, j, first)
+    let first = plus_eight(x, b, vb, p, j, sums);
+    plus_eight(y, a, va, p, j, first)
 }
 
 // Each of eight sums, those of the columns from j on, with the two products at p added one after the other.

@@ -1,7 +1,7 @@
 // Replays a call in complex numbers.
+use number::Complex;
 use recorded_calls::trans;
 use recorded_calls::uplo;
-use number::Complex;
 
 // Whether the call gives the record's answer and the target's slab after the call, and leaves the others.
 pub fn agrees(body: &[u8]) -> bool {

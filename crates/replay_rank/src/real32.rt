@@ -1,7 +1,7 @@
 // Replays a call in f32.
+use number::Real32;
 use recorded_calls::trans;
 use recorded_calls::uplo;
-use number::Real32;
 
 // Whether the call gives the record's answer and the target's slab after the call, and leaves the others.
 pub fn agrees(body: &[u8]) -> bool {

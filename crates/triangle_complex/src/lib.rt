@@ -27,6 +27,8 @@ use call_check::check_trsv;
 use call_check::quick_trmm;
 use call_check::quick_trmv;
 use number::Complex;
+use slab::complex::elem;
+use slab::complex::put;
 use triangle_plan::System;
 use triangle_plan::in_order;
 use triangle_plan::is_left;
@@ -35,8 +37,6 @@ use triangle_plan::lines_solved;
 use triangle_plan::solved;
 use triangle_plan::stops;
 use triangle_plan::system_of;
-use slab::elem_complex;
-use slab::put_complex;
 use view::Answer;
 use view::Diag;
 use view::Side;
@@ -54,7 +54,7 @@ fn at(conjugated: bool, s: &[f64], v: View, i: usize, j: usize) -> Complex
     requires { ⌜ Within v (complex .count (now s)) i j ⌝ }
     ensures { λ r. ⌜ r ≡ elemConj complex conjugated (now (s .entry)) v i j ⌝ }
 {
-    let x = elem_complex(s, v, i, j);
+    let x = elem(s, v, i, j);
     if conjugated { x.conj() } else { x }
 }
 
@@ -78,7 +78,7 @@ fn reduce(
     let end = from + n;
     let mut p = from;
     while p < end {
-        rest = rest.sub(at(conjugated, a, va, q, p).mul(elem_complex(b, vb, p, l)));
+        rest = rest.sub(at(conjugated, a, va, q, p).mul(elem(b, vb, p, l)));
         p += 1;
     }
     rest
@@ -104,7 +104,7 @@ fn add_run(
     let end = from + n;
     let mut p = from;
     while p < end {
-        sum = sum.add(at(conjugated, a, va, q, p).mul(elem_complex(b, vb, p, l)));
+        sum = sum.add(at(conjugated, a, va, q, p).mul(elem(b, vb, p, l)));
         p += 1;
     }
     sum
@@ -127,7 +127,7 @@ fn zero_pivot(diag: Diag, a: &[f64], va: View, q: usize) -> bool
     ensures { λ r. ⌜ r ≡ solve.zeroDiag complex diag (elem complex (now (a .entry)) va q q) ⌝ }
 {
     match diag {
-        Diag::NonUnit => elem_complex(a, va, q, q).is_zero(),
+        Diag::NonUnit => elem(a, va, q, q).is_zero(),
         Diag::Unit => false,
     }
 }
@@ -148,10 +148,10 @@ fn solve_one(sys: System, times: bool, alpha: Complex, a: &[f64], b: &mut [f64],
     let m = rows(sys.b);
     let q = in_order(sys.last, m, k);
     let from = least_solved(sys.last, m, k);
-    let x = times_if(times, alpha, elem_complex(b, sys.b, q, l));
+    let x = times_if(times, alpha, elem(b, sys.b, q, l));
     let rest = reduce(sys.conjugated, a, sys.a, b, sys.b, q, l, from, k, x);
     let y = by_pivot(diag, sys.conjugated, a, sys.a, q, rest);
-    put_complex(b, place(sys.b, q, l), y);
+    put(b, place(sys.b, q, l), y);
 }
 
 // Whether the pivot of the unknown that comes after k others is zero.
@@ -255,8 +255,8 @@ fn scale_one(alpha: Complex, b: &mut [f64], vb: View, i: usize, j: usize)
     requires { ⌜ Within vb (complex .count (now b)) i j ⌝ }
     ensures { λ _. ⌜ now (b .exit) ≡ updateOne complex vb everywhere (λ i j x. complex .mul alpha x) i j (now (b .entry)) ⌝ }
 {
-    let x = elem_complex(b, vb, i, j);
-    put_complex(b, place(vb, i, j), alpha.mul(x));
+    let x = elem(b, vb, i, j);
+    put(b, place(vb, i, j), alpha.mul(x));
 }
 
 // Row i of B times alpha.
@@ -334,7 +334,7 @@ fn line_sum(sys: System, a: &[f64], b: &[f64], q: usize, l: usize) -> Complex
 {
     let diag = sys.diag;
     let c = own_weight(diag, sys.conjugated, a, sys.a, q);
-    let own = c.mul(elem_complex(b, sys.b, q, l));
+    let own = c.mul(elem(b, sys.b, q, l));
     if sys.last {
         let n = rows(sys.b) - 1 - q;
         let x = Complex::ZERO.add(own);
@@ -361,7 +361,7 @@ fn multiply_one(
 {
     let q = in_order(!sys.last, rows(sys.b), k);
     let x = times_if(times, alpha, line_sum(sys, a, b, q, l));
-    put_complex(b, place(sys.b, q, l), x);
+    put(b, place(sys.b, q, l), x);
 }
 
 // Line l of B, in the order that reads no written element.

@@ -30,6 +30,12 @@ use call_check::check_trsv;
 use call_check::quick_trmm;
 use call_check::quick_trmv;
 use number::Real32;
+use slab::block_end;
+use slab::block_start;
+use slab::real32::elem;
+use slab::real32::minus_eight;
+use slab::real32::plus_eight;
+use slab::real32::put;
 use triangle_plan::System;
 use triangle_plan::eight_from;
 use triangle_plan::in_order;
@@ -39,12 +45,6 @@ use triangle_plan::lines_solved;
 use triangle_plan::solved;
 use triangle_plan::stops;
 use triangle_plan::system_of;
-use slab::add_eight32;
-use slab::block_end;
-use slab::block_start;
-use slab::elem32;
-use slab::put32;
-use slab::sub_eight32;
 use view::Answer;
 use view::Diag;
 use view::Side;
@@ -63,7 +63,7 @@ fn at(conjugated: bool, s: &[f32], v: View, i: usize, j: usize) -> Real32
     requires { ⌜ Within v (real32 .count (now s)) i j ⌝ }
     ensures { λ r. ⌜ r .0 ≡ elemConj real32 conjugated (now (s .entry)) v i j ⌝ }
 {
-    elem32(s, v, i, j)
+    elem(s, v, i, j)
 }
 
 // x less n terms of row q by column l, from `from` on.
@@ -87,7 +87,7 @@ fn reduce(
     let mut p = from;
     while p < end {
         rest = Real32(rest)
-            .sub(at(conjugated, a, va, q, p).mul(elem32(b, vb, p, l)))
+            .sub(at(conjugated, a, va, q, p).mul(elem(b, vb, p, l)))
             .0;
         p += 1;
     }
@@ -115,7 +115,7 @@ fn add_run(
     let mut p = from;
     while p < end {
         sum = Real32(sum)
-            .add(at(conjugated, a, va, q, p).mul(elem32(b, vb, p, l)))
+            .add(at(conjugated, a, va, q, p).mul(elem(b, vb, p, l)))
             .0;
         p += 1;
     }
@@ -139,7 +139,7 @@ fn zero_pivot(diag: Diag, a: &[f32], va: View, q: usize) -> bool
     ensures { λ r. ⌜ r ≡ solve.zeroDiag real32 diag (elem real32 (now (a .entry)) va q q) ⌝ }
 {
     match diag {
-        Diag::NonUnit => elem32(a, va, q, q).is_zero(),
+        Diag::NonUnit => elem(a, va, q, q).is_zero(),
         Diag::Unit => false,
     }
 }
@@ -160,10 +160,10 @@ fn solve_one(sys: System, times: bool, alpha: Real32, a: &[f32], b: &mut [f32], 
     let m = rows(sys.b);
     let q = in_order(sys.last, m, k);
     let from = least_solved(sys.last, m, k);
-    let x = times_if(times, alpha, elem32(b, sys.b, q, l)).0;
+    let x = times_if(times, alpha, elem(b, sys.b, q, l)).0;
     let rest = reduce(sys.conjugated, a, sys.a, b, sys.b, q, l, from, k, x);
     let y = by_pivot(diag, sys.conjugated, a, sys.a, q, rest);
-    put32(b, place(sys.b, q, l), Real32(y));
+    put(b, place(sys.b, q, l), Real32(y));
 }
 
 // The eight elements of row q of a view from column l on.
@@ -174,7 +174,7 @@ fn eight_at(s: &[f32], v: View, q: usize, l: usize) -> [f32; 8]
     let mut next = [0.0; 8];
     let mut t = 0;
     while t < 8 {
-        next[t] = elem32(s, v, q, l + t).0;
+        next[t] = elem(s, v, q, l + t).0;
         t += 1;
     }
     next
@@ -215,7 +215,7 @@ fn put_eight(b: &mut [f32], v: View, q: usize, l: usize, first: usize, end: usiz
     let mut i = 0;
     while i < n {
         let t = first + i;
-        put32(b, place(v, q, l + t), Real32(xs[t]));
+        put(b, place(v, q, l + t), Real32(xs[t]));
         i += 1;
     }
 }
@@ -249,7 +249,7 @@ fn reduce_eight(
     let end = from + n;
     let mut p = from;
     while p < end {
-        let next = sub_eight32(at(conjugated, a, va, q, p), b, vb, p, l, rest);
+        let next = minus_eight(at(conjugated, a, va, q, p), b, vb, p, l, rest);
         rest = next;
         p += 1;
     }
@@ -460,8 +460,8 @@ fn scale_one(alpha: Real32, b: &mut [f32], vb: View, i: usize, j: usize)
     requires { ⌜ Within vb (real32 .count (now b)) i j ⌝ }
     ensures { λ _. ⌜ now (b .exit) ≡ updateOne real32 vb everywhere (λ i j x. real32 .mul (alpha .0) x) i j (now (b .entry)) ⌝ }
 {
-    let x = elem32(b, vb, i, j);
-    put32(b, place(vb, i, j), alpha.mul(x));
+    let x = elem(b, vb, i, j);
+    put(b, place(vb, i, j), alpha.mul(x));
 }
 
 // Row i of B times alpha.
@@ -539,7 +539,7 @@ fn own_term(sys: System, a: &[f32], b: &[f32], q: usize, l: usize) -> Real32
 {
     let diag = sys.diag;
     let c = own_weight(diag, sys.conjugated, a, sys.a, q);
-    c.mul(elem32(b, sys.b, q, l))
+    c.mul(elem(b, sys.b, q, l))
 }
 
 // The own term of element q of line l, and the n terms behind it.
@@ -581,7 +581,7 @@ fn multiply_one(sys: System, alpha: Real32, a: &[f32], b: &mut [f32], k: usize, 
 {
     let q = in_order(!sys.last, rows(sys.b), k);
     let x = alpha.mul(Real32(line_sum(sys, a, b, q, l)));
-    put32(b, place(sys.b, q, l), x);
+    put(b, place(sys.b, q, l), x);
 }
 
 // Line l of B, in the order that reads no written element.
@@ -630,7 +630,7 @@ fn add_run_eight(
     let end = from + n;
     let mut p = from;
     while p < end {
-        let next = add_eight32(at(conjugated, a, va, q, p), b, vb, p, l, sums);
+        let next = plus_eight(at(conjugated, a, va, q, p), b, vb, p, l, sums);
         sums = next;
         p += 1;
     }
@@ -647,11 +647,11 @@ fn line_sums(sys: System, a: &[f32], b: &[f32], q: usize, l: usize) -> [f32; 8]
     let zeros = [0.0; 8];
     if sys.last {
         let n = rows(sys.b) - 1 - q;
-        let xs = add_eight32(c, b, sys.b, q, l, zeros);
+        let xs = plus_eight(c, b, sys.b, q, l, zeros);
         add_run_eight(sys.conjugated, a, sys.a, b, sys.b, q, l, q + 1, n, xs)
     } else {
         let sums = add_run_eight(sys.conjugated, a, sys.a, b, sys.b, q, l, 0, q, zeros);
-        add_eight32(c, b, sys.b, q, l, sums)
+        plus_eight(c, b, sys.b, q, l, sums)
     }
 }
 
@@ -719,7 +719,7 @@ fn multiply_next(sys: System, a: &[f32], b: &mut [f32], k: usize)
 {
     let q = in_order(!sys.last, rows(sys.b), k);
     let x = line_sum(sys, a, b, q, 0);
-    put32(b, place(sys.b, q, 0), Real32(x));
+    put(b, place(sys.b, q, 0), Real32(x));
 }
 
 // All of a vector, in that order, element by element.
@@ -753,7 +753,7 @@ fn add_rows(
     let end = from + n;
     let mut p = from;
     while p < end {
-        let next = add_eight32(elem32(b, sys.b, p, 0), a, v, p, q, sums);
+        let next = plus_eight(elem(b, sys.b, p, 0), a, v, p, q, sums);
         sums = next;
         p += 1;
     }
@@ -813,7 +813,7 @@ fn put_rows(last: bool, b: &mut [f32], v: View, q: usize, first: usize, xs: [f32
     let mut i = 0;
     while i < left {
         let t = in_order(last, 8, first + i);
-        put32(b, place(v, q + t, 0), Real32(xs[t]));
+        put(b, place(v, q + t, 0), Real32(xs[t]));
         i += 1;
     }
 }

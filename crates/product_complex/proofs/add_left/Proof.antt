@@ -21,8 +21,8 @@ loop-holds c = (omega arith, c .before .before .pre .0 .ordered, plus-start comp
 at-requires : tie.Need-at-requires Inv-loop μ-loop
 at-requires c κs = c .before .before .before .before .pre .0 .left _ (omega arith)
 
-elem-complex-requires : tie.Need-elem-complex-requires Inv-loop μ-loop
-elem-complex-requires c κs = c .before .before .before .before .before .pre .0 .right _ (omega arith)
+elem-requires : tie.Need-elem-requires Inv-loop μ-loop
+elem-requires c κs = c .before .before .before .before .before .pre .0 .right _ (omega arith)
 
 mul-requires : tie.Need-mul-requires Inv-loop μ-loop
 mul-requires c κs = tt
@@ -39,7 +39,7 @@ loop-less c = omega arith
 loop-again : tie.Need-loop-again Inv-loop μ-loop
 loop-again c =
     let p = c .before .before .before .before .before .before .before .before .args in
-    (omega arith, omega arith, left-next complex (p .f) (now (p .a)) (now (p .b)) (p .i) (p .j) _ _ _ _ _ _ _ _ (c .before .before .before .before .before .loop .inv .0) (c .before .before .before .before .before .before .before .before .pre .1) (c .before .before .before .before .before .loop .inv .2) (c .before .before .before .at .ensures) (c .before .before .elem-complex .ensures) (c .before .mul .ensures) (c .add .ensures))
+    (omega arith, omega arith, left-next complex (p .f) (now (p .a)) (now (p .b)) (p .i) (p .j) _ _ _ _ _ _ _ _ (c .before .before .before .before .before .loop .inv .0) (c .before .before .before .before .before .before .before .before .pre .1) (c .before .before .before .before .before .loop .inv .2) (c .before .before .before .at .ensures) (c .before .before .elem .ensures) (c .before .mul .ensures) (c .add .ensures))
 
 returns : tie.Need-returns Inv-loop μ-loop
 returns c = plus-end complex _ _ _ _ _ _ (c .before .loop .inv .1) (omega arith) (c .before .loop .inv .2)
@@ -52,7 +52,7 @@ add-left-spec =
     μ-loop
     loop-holds
     at-requires
-    elem-complex-requires
+    elem-requires
     mul-requires
     add-requires
     add-p

@@ -11,8 +11,8 @@ use Rattle.product_complex.proofs.settle.Tie as tie
 place-requires : tie.Need-place-requires
 place-requires c κs = shown _ _ _ _ (c .before .pre) (omega arith)
 
-get-complex-requires : tie.Need-get-complex-requires
-get-complex-requires c κs = inside _ _ _ _ (c .before .before .before .pre) _ (c .before .place .ensures)
+get-requires : tie.Need-get-requires
+get-requires c κs = inside _ _ _ _ (c .before .before .before .pre) _ (c .before .place .ensures)
 
 scale-requires : tie.Need-scale-requires
 scale-requires c κs = tt
@@ -23,24 +23,24 @@ times-requires c κs = tt
 add-requires : tie.Need-add-requires
 add-requires c κs = tt
 
-put-complex-requires : tie.Need-put-complex-requires
-put-complex-requires c κs = inside _ _ _ _ (c .before .before .before .before .before .before .before .before .pre) _ (c .before .before .before .before .before .before .place .ensures)
+put-requires : tie.Need-put-requires
+put-requires c κs = inside _ _ _ _ (c .before .before .before .before .before .before .before .before .pre) _ (c .before .before .before .before .before .before .place .ensures)
 
 same-length : tie.Need-same-length
 same-length c = search needs
 
 returns : tie.Need-returns
-returns c = let p = c .before .before .before .before .before .before .before .before .before .before .before .args in put-replaced complex (p .v) (p .i) (p .j) (scaleByComplex (p .beta)) (times (p .alpha)) (p .sum) (now (p .c)) _ _ _ _ _ _ (c .before .before .before .before .before .before .before .before .before .place .ensures) (c .before .before .before .before .before .before .before .get-complex .ensures) (c .before .before .before .before .before .scale .ensures) (c .before .before .before .before .times .ensures) (c .before .before .before .add .ensures) (c .before .before .put-complex .ensures)
+returns c = let p = c .before .before .before .before .before .before .before .before .before .before .before .args in put-replaced complex (p .v) (p .i) (p .j) (scaleByComplex (p .beta)) (times (p .alpha)) (p .sum) (now (p .c)) _ _ _ _ _ _ (c .before .before .before .before .before .before .before .before .before .place .ensures) (c .before .before .before .before .before .before .before .get .ensures) (c .before .before .before .before .before .scale .ensures) (c .before .before .before .before .times .ensures) (c .before .before .before .add .ensures) (c .before .before .put .ensures)
 
 pub settle-spec : {M : Type 1} → statement M
 settle-spec =
     tie.close
     (tie.spec
     place-requires
-    get-complex-requires
+    get-requires
     scale-requires
     times-requires
     add-requires
-    put-complex-requires
+    put-requires
     same-length
     returns)

@@ -11,8 +11,8 @@ use Rattle.product_real32.proofs.settle.Tie as tie
 place-requires : tie.Need-place-requires
 place-requires c κs = shown _ _ _ _ (c .before .pre) (omega arith)
 
-get32-requires : tie.Need-get32-requires
-get32-requires c κs = inside _ _ _ _ (c .before .before .before .pre) _ (c .before .place .ensures)
+get-requires : tie.Need-get-requires
+get-requires c κs = inside _ _ _ _ (c .before .before .before .pre) _ (c .before .place .ensures)
 
 scale-requires : tie.Need-scale-requires
 scale-requires c κs = tt
@@ -23,24 +23,24 @@ mul-requires c κs = tt
 add-requires : tie.Need-add-requires
 add-requires c κs = tt
 
-put32-requires : tie.Need-put32-requires
-put32-requires c κs = inside _ _ _ _ (c .before .before .before .before .before .before .before .before .pre) _ (c .before .before .before .before .before .before .place .ensures)
+put-requires : tie.Need-put-requires
+put-requires c κs = inside _ _ _ _ (c .before .before .before .before .before .before .before .before .pre) _ (c .before .before .before .before .before .before .place .ensures)
 
 same-length : tie.Need-same-length
 same-length c = search needs
 
 returns : tie.Need-returns
-returns c = let p = c .before .before .before .before .before .before .before .before .before .before .before .args in put-replaced real32 (p .v) (p .i) (p .j) (scaleBy32 (p .beta)) (real32 .mul (p .alpha .0)) (p .sum .0) (now (p .c)) _ _ _ _ _ _ (c .before .before .before .before .before .before .before .before .before .place .ensures) (c .before .before .before .before .before .before .before .get32 .ensures) (c .before .before .before .before .before .scale .ensures) (c .before .before .before .before .mul .ensures) (c .before .before .before .add .ensures) (c .before .before .put32 .ensures)
+returns c = let p = c .before .before .before .before .before .before .before .before .before .before .before .args in put-replaced real32 (p .v) (p .i) (p .j) (scaleBy32 (p .beta)) (real32 .mul (p .alpha .0)) (p .sum .0) (now (p .c)) _ _ _ _ _ _ (c .before .before .before .before .before .before .before .before .before .place .ensures) (c .before .before .before .before .before .before .before .get .ensures) (c .before .before .before .before .before .scale .ensures) (c .before .before .before .before .mul .ensures) (c .before .before .before .add .ensures) (c .before .before .put .ensures)
 
 pub settle-spec : {M : Type 1} → statement M
 settle-spec =
     tie.close
     (tie.spec
     place-requires
-    get32-requires
+    get-requires
     scale-requires
     mul-requires
     add-requires
-    put32-requires
+    put-requires
     same-length
     returns)

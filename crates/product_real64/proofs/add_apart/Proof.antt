@@ -28,7 +28,7 @@ loop-again : tie.Need-loop-again Inv-loop μ-loop
 loop-again c =
     let p = c .before .before .before .before .before .before .args in
     let l = c .before .before .before .loop in
-    (omega arith, omega arith, eight-next binary64 (p .f) (now (p .a)) (now (p .b)) (p .i) (p .j) _ _ _ (l .totals) _ _ (l .inv .0) (l .inv .2) (c .before .elem64 .ensures) (c .add-eight64 .ensures))
+    (omega arith, omega arith, eight-next binary64 (p .f) (now (p .a)) (now (p .b)) (p .i) (p .j) _ _ _ (l .totals) _ _ (l .inv .0) (l .inv .2) (c .before .elem .ensures) (c .plus-eight .ensures))
 
 pub add-apart-spec : {M : Type 1} → statement M
 add-apart-spec =

@@ -30,8 +30,8 @@ place-requires c κs =
     let h = c .before .before .before .before .before .pre .0 .right (c .before .before .loop .p) (omega arith) in
     shown _ _ _ _ (record { fits = h .fits; row = h .row; col = omega (arith, h .col) }) (omega arith)
 
-add-beside64-requires : tie.Need-add-beside64-requires Inv-loop μ-loop
-add-beside64-requires c κs =
+plus-beside-requires : tie.Need-plus-beside-requires Inv-loop μ-loop
+plus-beside-requires c κs =
     let r = c .before .before .before .before .before .before .pre in
     let h = r .0 .right (c .before .before .before .loop .p) (omega arith) in
     omega (arith, inside _ _ _ _ h _ refl, beside _ _ _ _ 7 (r .1) h, c .place .ensures)
@@ -41,7 +41,7 @@ loop-again c =
     let p = c .before .before .before .before .before .before .before .args in
     let l = c .before .before .before .before .loop in
     let r = c .before .before .before .before .before .before .before .pre in
-    (omega arith, omega arith, beside-next binary64 (p .f) (now (p .a)) (now (p .b)) (p .i) (p .j) _ _ _ (l .totals) _ _ _ _ (r .1) (r .0 .right (l .p) (omega arith)) (c .before .place .ensures) (l .inv .0) (l .inv .2) (c .before .before .elem64 .ensures) (c .add-beside64 .ensures))
+    (omega arith, omega arith, beside-next binary64 (p .f) (now (p .a)) (now (p .b)) (p .i) (p .j) _ _ _ (l .totals) _ _ _ _ (r .1) (r .0 .right (l .p) (omega arith)) (c .before .place .ensures) (l .inv .0) (l .inv .2) (c .before .before .elem .ensures) (c .plus-beside .ensures))
 
 pub add-beside-spec : {M : Type 1} → statement M
 add-beside-spec =
@@ -52,7 +52,7 @@ add-beside-spec =
     loop-holds
     (λ c κs. c .before .before .before .before .pre .0 .left _ (omega arith))
     place-requires
-    add-beside64-requires
+    plus-beside-requires
     (λ c. omega arith)
     (λ c. omega arith)
     loop-again

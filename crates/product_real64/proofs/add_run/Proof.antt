@@ -19,11 +19,11 @@ abbrev μ-loop : tie.MeasureT-loop
 loop-holds : tie.Need-loop-holds Inv-loop μ-loop
 loop-holds c = (omega arith, c .before .before .pre .ordered, plus-start real64 _ _ _)
 
-elem64-requires : tie.Need-elem64-requires Inv-loop μ-loop
-elem64-requires c κs = c .before .before .before .before .pre .left _ (omega arith)
+elem-requires : tie.Need-elem-requires Inv-loop μ-loop
+elem-requires c κs = c .before .before .before .before .pre .left _ (omega arith)
 
-elem64-requires-2 : tie.Need-elem64-requires-2 Inv-loop μ-loop
-elem64-requires-2 c κs = c .before .before .before .before .before .pre .right _ (omega arith)
+elem-requires-2 : tie.Need-elem-requires-2 Inv-loop μ-loop
+elem-requires-2 c κs = c .before .before .before .before .before .pre .right _ (omega arith)
 
 mul-requires : tie.Need-mul-requires Inv-loop μ-loop
 mul-requires c κs = tt
@@ -40,7 +40,7 @@ loop-less c = omega arith
 loop-again : tie.Need-loop-again Inv-loop μ-loop
 loop-again c =
     let p = c .before .before .before .before .before .before .before .before .args in
-    (omega arith, omega arith, real-next binary64 (p .f) (now (p .a)) (now (p .b)) (p .i) (p .j) _ _ _ _ _ _ _ _ (c .before .before .before .before .before .loop .inv .0) (c .before .before .before .before .before .loop .inv .2) (c .before .before .before .elem64 .ensures) (c .before .before .elem642 .ensures) (c .before .mul .ensures) (c .add .ensures))
+    (omega arith, omega arith, real-next binary64 (p .f) (now (p .a)) (now (p .b)) (p .i) (p .j) _ _ _ _ _ _ _ _ (c .before .before .before .before .before .loop .inv .0) (c .before .before .before .before .before .loop .inv .2) (c .before .before .before .elem .ensures) (c .before .before .elem2 .ensures) (c .before .mul .ensures) (c .add .ensures))
 
 returns : tie.Need-returns Inv-loop μ-loop
 returns c = plus-end real64 _ _ _ _ _ _ (c .before .loop .inv .1) (omega arith) (c .before .loop .inv .2)
@@ -52,8 +52,8 @@ add-run-spec =
     Inv-loop
     μ-loop
     loop-holds
-    elem64-requires
-    elem64-requires-2
+    elem-requires
+    elem-requires-2
     mul-requires
     add-requires
     add-p

@@ -25,11 +25,11 @@ abbrev μ-loop : tie.MeasureT-loop
 loop-holds : tie.Need-loop-holds Inv-loop μ-loop
 loop-holds c = (omega arith, sums-start real64 _ _ _ (eight-of binary64 _) (zero-literal binary64))
 
-elem64-requires : tie.Need-elem64-requires Inv-loop μ-loop
-elem64-requires c κs = let r = c .before .before .before .before .before .pre in r .0 .right _ _ (omega arith) (omega (arith, r .2))
+elem-requires : tie.Need-elem-requires Inv-loop μ-loop
+elem-requires c κs = let r = c .before .before .before .before .before .pre in r .0 .right _ _ (omega arith) (omega (arith, r .2))
 
-add-eight64-requires : tie.Need-add-eight64-requires Inv-loop μ-loop
-add-eight64-requires c κs =
+plus-eight-requires : tie.Need-plus-eight-requires Inv-loop μ-loop
+plus-eight-requires c κs =
     let r = c .before .before .before .before .before .before .pre in
     let h = r .0 .left (c .before .before .before .before .before .before .args .i + 7) (c .before .before .loop .p) (omega (arith, r .1)) (omega arith) in
     rw (c .before .before .before .transposed .ensures) (record { fits = transposed-accepted _ _ (h .fits); row = h .col; col = h .row })
@@ -38,7 +38,7 @@ loop-again : tie.Need-loop-again Inv-loop μ-loop
 loop-again c =
     let x = c .before .before .before .before .before .before .before .args in
     let l = c .before .before .before .loop in
-    (omega arith, column-sums-next binary64 (real-commutes binary64) (x .plan .factors) (now (x .a)) (now (x .b)) (x .i) (l .p) (l .sums) _ _ (l .inv .1) (c .before .elem64 .ensures) (rw (sym (c .before .before .before .before .transposed .ensures)) (c .add-eight64 .ensures)))
+    (omega arith, column-sums-next binary64 (real-commutes binary64) (x .plan .factors) (now (x .a)) (now (x .b)) (x .i) (l .p) (l .sums) _ _ (l .inv .1) (c .before .elem .ensures) (rw (sym (c .before .before .before .before .transposed .ensures)) (c .plus-eight .ensures)))
 
 pub column-sums-spec : {M : Type 1} → statement M
 column-sums-spec =
@@ -48,8 +48,8 @@ column-sums-spec =
     μ-loop
     (λ c κs. tt)
     loop-holds
-    elem64-requires
-    add-eight64-requires
+    elem-requires
+    plus-eight-requires
     (λ c. let r = c .before .before .before .before .before .before .before .pre in let h = r .0 .right (c .before .before .before .loop .p) 0 (omega arith) (omega (arith, r .2)) in omega (arith, h .row, h .fits .rows-le))
     (λ c. omega arith)
     loop-again

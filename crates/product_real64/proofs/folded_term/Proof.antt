@@ -7,10 +7,10 @@ use Rattle.product_real64.proofs.folded_term.Statement.{statement}
 use Rattle.product_real64.proofs.folded_term.Tie as tie
 
 returns : tie.Need-returns
-returns c = let p = c .before .before .before .before .before .before in before-turn binary64 (p .args .plan) (now (p .args .a)) (now (p .args .b)) (p .args .i) (p .args .j) (p .args .p) (p .args .k) _ _ _ (p .pre .4) (omega arith) (c .before .before .elem64 .ensures) (c .before .elem642 .ensures) (c .mul .ensures)
+returns c = let p = c .before .before .before .before .before .before in before-turn binary64 (p .args .plan) (now (p .args .a)) (now (p .args .b)) (p .args .i) (p .args .j) (p .args .p) (p .args .k) _ _ _ (p .pre .4) (omega arith) (c .before .before .elem .ensures) (c .before .elem2 .ensures) (c .mul .ensures)
 
 returns-2 : tie.Need-returns-2
-returns-2 c = let p = c .before .before .before .before .before .before in after-turn binary64 (p .args .plan) (now (p .args .a)) (now (p .args .b)) (p .args .i) (p .args .j) (p .args .p) (p .args .k) _ _ _ (p .pre .4) (omega arith) (c .before .before .elem643 .ensures) (c .before .elem644 .ensures) (c .mul2 .ensures)
+returns-2 c = let p = c .before .before .before .before .before .before in after-turn binary64 (p .args .plan) (now (p .args .a)) (now (p .args .b)) (p .args .i) (p .args .j) (p .args .p) (p .args .k) _ _ _ (p .pre .4) (omega arith) (c .before .before .elem3 .ensures) (c .before .elem4 .ensures) (c .mul2 .ensures)
 
 pub folded-term-spec : {M : Type 1} → statement M
 folded-term-spec =

@@ -11,8 +11,8 @@ use Rattle.product_real64.proofs.settle.Tie as tie
 place-requires : tie.Need-place-requires
 place-requires c κs = shown _ _ _ _ (c .before .pre) (omega arith)
 
-get64-requires : tie.Need-get64-requires
-get64-requires c κs = inside _ _ _ _ (c .before .before .before .pre) _ (c .before .place .ensures)
+get-requires : tie.Need-get-requires
+get-requires c κs = inside _ _ _ _ (c .before .before .before .pre) _ (c .before .place .ensures)
 
 scale-requires : tie.Need-scale-requires
 scale-requires c κs = tt
@@ -23,24 +23,24 @@ mul-requires c κs = tt
 add-requires : tie.Need-add-requires
 add-requires c κs = tt
 
-put64-requires : tie.Need-put64-requires
-put64-requires c κs = inside _ _ _ _ (c .before .before .before .before .before .before .before .before .pre) _ (c .before .before .before .before .before .before .place .ensures)
+put-requires : tie.Need-put-requires
+put-requires c κs = inside _ _ _ _ (c .before .before .before .before .before .before .before .before .pre) _ (c .before .before .before .before .before .before .place .ensures)
 
 same-length : tie.Need-same-length
 same-length c = search needs
 
 returns : tie.Need-returns
-returns c = let p = c .before .before .before .before .before .before .before .before .before .before .before .args in put-replaced real64 (p .v) (p .i) (p .j) (scaleBy64 (p .beta)) (real64 .mul (p .alpha .0)) (p .sum .0) (now (p .c)) _ _ _ _ _ _ (c .before .before .before .before .before .before .before .before .before .place .ensures) (c .before .before .before .before .before .before .before .get64 .ensures) (c .before .before .before .before .before .scale .ensures) (c .before .before .before .before .mul .ensures) (c .before .before .before .add .ensures) (c .before .before .put64 .ensures)
+returns c = let p = c .before .before .before .before .before .before .before .before .before .before .before .args in put-replaced real64 (p .v) (p .i) (p .j) (scaleBy64 (p .beta)) (real64 .mul (p .alpha .0)) (p .sum .0) (now (p .c)) _ _ _ _ _ _ (c .before .before .before .before .before .before .before .before .before .place .ensures) (c .before .before .before .before .before .before .before .get .ensures) (c .before .before .before .before .before .scale .ensures) (c .before .before .before .before .mul .ensures) (c .before .before .before .add .ensures) (c .before .before .put .ensures)
 
 pub settle-spec : {M : Type 1} → statement M
 settle-spec =
     tie.close
     (tie.spec
     place-requires
-    get64-requires
+    get-requires
     scale-requires
     mul-requires
     add-requires
-    put64-requires
+    put-requires
     same-length
     returns)

@@ -13,32 +13,32 @@ use Rattle.rank_complex.proofs.her2_entry.Tie as tie
 place-requires : tie.Need-place-requires
 place-requires c κs = shown _ _ _ _ (c .before .before .before .pre .2) (omega arith)
 
-get-complex-requires : tie.Need-get-complex-requires
-get-complex-requires c κs = inside _ _ _ _ (c .before .before .before .before .before .pre .2) _ (c .before .place .ensures)
+get-requires : tie.Need-get-requires
+get-requires c κs = inside _ _ _ _ (c .before .before .before .before .before .pre .2) _ (c .before .place .ensures)
 
-put-complex-requires : tie.Need-put-complex-requires
-put-complex-requires c κs = inside _ _ _ _ (c .before .before .before .before .before .before .before .before .before .before .before .before .before .before .before .pre .2) _ (c .before .before .before .before .before .before .before .before .before .before .before .place .ensures)
+put-requires : tie.Need-put-requires
+put-requires c κs = inside _ _ _ _ (c .before .before .before .before .before .before .before .before .before .before .before .before .before .before .before .pre .2) _ (c .before .before .before .before .before .before .before .before .before .before .before .place .ensures)
 
 returns : tie.Need-returns
 returns c =
     let p = c .before .before .before .before .before .before .before .before .before .before .before .before .before .before .before .before .before .before .args in
     put-replaced complex (p .va) (p .i) (p .j) (addTwo complex (p .w) (p .w2) (elem complex (now (p .x)) (p .vx)) (elem complex (now (p .y)) (p .vy)) (p .j)) (now (p .a)) _ _ _ _
     (c .before .before .before .before .before .before .before .before .before .before .before .before .before .before .place .ensures)
-    (c .before .before .before .before .before .before .before .before .before .before .before .before .get-complex .ensures)
+    (c .before .before .before .before .before .before .before .before .before .before .before .before .get .ensures)
     (twice complex _ _ _ _ _ _ _ _ _
-    (more complex _ _ _ _ _ _ _ refl (c .before .before .before .before .before .before .before .before .before .before .conj .ensures ∙ ap (complex .conj) (c .before .before .before .before .before .before .before .before .before .before .before .elem-complex .ensures)) (c .before .before .before .before .before .before .before .before .before .mul .ensures) (c .before .before .before .before .add .ensures))
+    (more complex _ _ _ _ _ _ _ refl (c .before .before .before .before .before .before .before .before .before .before .conj .ensures ∙ ap (complex .conj) (c .before .before .before .before .before .before .before .before .before .before .before .elem .ensures)) (c .before .before .before .before .before .before .before .before .before .mul .ensures) (c .before .before .before .before .add .ensures))
     refl
-    (c .before .before .before .before .before .before .before .conj2 .ensures ∙ ap (complex .conj) (c .before .before .before .before .before .before .before .before .elem-complex2 .ensures))
+    (c .before .before .before .before .before .before .before .conj2 .ensures ∙ ap (complex .conj) (c .before .before .before .before .before .before .before .before .elem2 .ensures))
     (c .before .before .before .before .before .before .mul2 .ensures)
     (c .before .before .before .add2 .ensures))
-    (c .before .before .put-complex .ensures)
+    (c .before .before .put .ensures)
 
 pub her2-entry-spec : {M : Type 1} → statement M
 her2-entry-spec =
     tie.close
     (tie.spec
     place-requires
-    get-complex-requires
+    get-requires
     (λ c κs. search needs)
     (λ c κs. tt)
     (λ c κs. tt)
@@ -47,6 +47,6 @@ her2-entry-spec =
     (λ c κs. tt)
     (λ c κs. tt)
     (λ c κs. tt)
-    put-complex-requires
+    put-requires
     (λ c. search needs)
     returns)

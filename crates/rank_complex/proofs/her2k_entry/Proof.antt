@@ -13,8 +13,8 @@ use Rattle.rank_complex.proofs.her2k_entry.Tie as tie
 place-requires : tie.Need-place-requires
 place-requires c κs = shown _ _ _ _ (c .before .before .before .pre .1) (omega arith)
 
-get-complex-requires : tie.Need-get-complex-requires
-get-complex-requires c κs = inside _ _ _ _ (c .before .before .before .before .before .pre .1) _ (c .before .place .ensures)
+get-requires : tie.Need-get-requires
+get-requires c κs = inside _ _ _ _ (c .before .before .before .before .before .pre .1) _ (c .before .place .ensures)
 
 scale-requires : tie.Need-scale-requires
 scale-requires c κs = tt
@@ -25,24 +25,24 @@ weighed-sum-requires c κs = search needs
 add-requires : tie.Need-add-requires
 add-requires c κs = tt
 
-put-complex-requires : tie.Need-put-complex-requires
-put-complex-requires c κs = inside _ _ _ _ (c .before .before .before .before .before .before .before .before .before .before .pre .1) _ (c .before .before .before .before .before .before .place .ensures)
+put-requires : tie.Need-put-requires
+put-requires c κs = inside _ _ _ _ (c .before .before .before .before .before .before .before .before .before .before .pre .1) _ (c .before .before .before .before .before .before .place .ensures)
 
 same-length : tie.Need-same-length
 same-length c = search needs
 
 returns : tie.Need-returns
-returns c = let p = c .before .before .before .before .before .before .before .before .before .before .before .before .before .args in put-replaced complex (p .plan .target) (p .i) (p .j) (her2kChange complex (p .plan) (now (p .a)) (now (p .b)) (p .alpha) (scaleByComplex (p .beta)) (p .i) (p .j)) (now (p .c)) _ _ _ _ (c .before .before .before .before .before .before .before .before .before .place .ensures) (c .before .before .before .before .before .before .before .get-complex .ensures) (c .before .before .before .add .ensures ∙ (λ t. complex .add (c .before .before .before .before .before .before .scale .ensures t) (c .before .before .before .before .before .weighed-sum .ensures t))) (c .before .before .put-complex .ensures)
+returns c = let p = c .before .before .before .before .before .before .before .before .before .before .before .before .before .args in put-replaced complex (p .plan .target) (p .i) (p .j) (her2kChange complex (p .plan) (now (p .a)) (now (p .b)) (p .alpha) (scaleByComplex (p .beta)) (p .i) (p .j)) (now (p .c)) _ _ _ _ (c .before .before .before .before .before .before .before .before .before .place .ensures) (c .before .before .before .before .before .before .before .get .ensures) (c .before .before .before .add .ensures ∙ (λ t. complex .add (c .before .before .before .before .before .before .scale .ensures t) (c .before .before .before .before .before .weighed-sum .ensures t))) (c .before .before .put .ensures)
 
 pub her2k-entry-spec : {M : Type 1} → statement M
 her2k-entry-spec =
     tie.close
     (tie.spec
     place-requires
-    get-complex-requires
+    get-requires
     scale-requires
     weighed-sum-requires
     add-requires
-    put-complex-requires
+    put-requires
     same-length
     returns)

@@ -13,31 +13,31 @@ use Rattle.rank_complex.proofs.her_entry.Tie as tie
 place-requires : tie.Need-place-requires
 place-requires c κs = shown _ _ _ _ (c .before .before .pre .1) (omega arith)
 
-get-complex-requires : tie.Need-get-complex-requires
-get-complex-requires c κs = inside _ _ _ _ (c .before .before .before .before .pre .1) _ (c .before .place .ensures)
+get-requires : tie.Need-get-requires
+get-requires c κs = inside _ _ _ _ (c .before .before .before .before .pre .1) _ (c .before .place .ensures)
 
-put-complex-requires : tie.Need-put-complex-requires
-put-complex-requires c κs = inside _ _ _ _ (c .before .before .before .before .before .before .before .before .before .before .pre .1) _ (c .before .before .before .before .before .before .before .place .ensures)
+put-requires : tie.Need-put-requires
+put-requires c κs = inside _ _ _ _ (c .before .before .before .before .before .before .before .before .before .before .pre .1) _ (c .before .before .before .before .before .before .before .place .ensures)
 
 returns : tie.Need-returns
 returns c =
     let p = c .before .before .before .before .before .before .before .before .before .before .before .before .before .args in
     put-replaced complex (p .va) (p .i) (p .j) (addOne complex (p .w) (elem complex (now (p .x)) (p .vx)) (p .j)) (now (p .a)) _ _ _ _
     (c .before .before .before .before .before .before .before .before .before .before .place .ensures)
-    (c .before .before .before .before .before .before .before .before .get-complex .ensures)
-    (more complex _ _ _ _ _ _ _ refl (c .before .before .before .before .before .before .conj .ensures ∙ ap (complex .conj) (c .before .before .before .before .before .before .before .elem-complex .ensures)) (c .before .before .before .before .before .mul .ensures) (c .before .before .before .add .ensures))
-    (c .before .before .put-complex .ensures)
+    (c .before .before .before .before .before .before .before .before .get .ensures)
+    (more complex _ _ _ _ _ _ _ refl (c .before .before .before .before .before .before .conj .ensures ∙ ap (complex .conj) (c .before .before .before .before .before .before .before .elem .ensures)) (c .before .before .before .before .before .mul .ensures) (c .before .before .before .add .ensures))
+    (c .before .before .put .ensures)
 
 pub her-entry-spec : {M : Type 1} → statement M
 her-entry-spec =
     tie.close
     (tie.spec
     place-requires
-    get-complex-requires
+    get-requires
     (λ c κs. search needs)
     (λ c κs. tt)
     (λ c κs. tt)
     (λ c κs. tt)
-    put-complex-requires
+    put-requires
     (λ c. search needs)
     returns)

@@ -13,32 +13,32 @@ use Rattle.rank_real32.proofs.her2_entry.Tie as tie
 place-requires : tie.Need-place-requires
 place-requires c κs = shown _ _ _ _ (c .before .before .before .pre .2) (omega arith)
 
-get32-requires : tie.Need-get32-requires
-get32-requires c κs = inside _ _ _ _ (c .before .before .before .before .before .pre .2) _ (c .before .place .ensures)
+get-requires : tie.Need-get-requires
+get-requires c κs = inside _ _ _ _ (c .before .before .before .before .before .pre .2) _ (c .before .place .ensures)
 
-put32-requires : tie.Need-put32-requires
-put32-requires c κs = inside _ _ _ _ (c .before .before .before .before .before .before .before .before .before .before .before .before .before .before .before .pre .2) _ (c .before .before .before .before .before .before .before .before .before .before .before .place .ensures)
+put-requires : tie.Need-put-requires
+put-requires c κs = inside _ _ _ _ (c .before .before .before .before .before .before .before .before .before .before .before .before .before .before .before .pre .2) _ (c .before .before .before .before .before .before .before .before .before .before .before .place .ensures)
 
 returns : tie.Need-returns
 returns c =
     let p = c .before .before .before .before .before .before .before .before .before .before .before .before .before .before .before .before .before .before .args in
     put-replaced real32 (p .va) (p .i) (p .j) (addTwo real32 (p .w .0) (p .w2 .0) (elem real32 (now (p .x)) (p .vx)) (elem real32 (now (p .y)) (p .vy)) (p .j)) (now (p .a)) _ _ _ _
     (c .before .before .before .before .before .before .before .before .before .before .before .before .before .before .place .ensures)
-    (c .before .before .before .before .before .before .before .before .before .before .before .before .get32 .ensures)
+    (c .before .before .before .before .before .before .before .before .before .before .before .before .get .ensures)
     (twice real32 _ _ _ _ _ _ _ _ _
-    (more real32 _ _ _ _ _ _ _ refl (c .before .before .before .before .before .before .before .before .before .before .conj .ensures ∙ ap (real32 .conj) (c .before .before .before .before .before .before .before .before .before .before .before .elem32 .ensures)) (c .before .before .before .before .before .before .before .before .before .mul .ensures) (c .before .before .before .before .add .ensures))
+    (more real32 _ _ _ _ _ _ _ refl (c .before .before .before .before .before .before .before .before .before .before .conj .ensures ∙ ap (real32 .conj) (c .before .before .before .before .before .before .before .before .before .before .before .elem .ensures)) (c .before .before .before .before .before .before .before .before .before .mul .ensures) (c .before .before .before .before .add .ensures))
     refl
-    (c .before .before .before .before .before .before .before .conj2 .ensures ∙ ap (real32 .conj) (c .before .before .before .before .before .before .before .before .elem322 .ensures))
+    (c .before .before .before .before .before .before .before .conj2 .ensures ∙ ap (real32 .conj) (c .before .before .before .before .before .before .before .before .elem2 .ensures))
     (c .before .before .before .before .before .before .mul2 .ensures)
     (c .before .before .before .add2 .ensures))
-    (c .before .before .put32 .ensures)
+    (c .before .before .put .ensures)
 
 pub her2-entry-spec : {M : Type 1} → statement M
 her2-entry-spec =
     tie.close
     (tie.spec
     place-requires
-    get32-requires
+    get-requires
     (λ c κs. search needs)
     (λ c κs. tt)
     (λ c κs. tt)
@@ -47,6 +47,6 @@ her2-entry-spec =
     (λ c κs. tt)
     (λ c κs. tt)
     (λ c κs. tt)
-    put32-requires
+    put-requires
     (λ c. search needs)
     returns)

@@ -20,8 +20,8 @@ Inv-loop alpha x vx a₀ va i w end j₀ a j = (j₀ ≤ j) × (j ≤ end) × (l
 abbrev μ-loop : tie.MeasureT-loop
 μ-loop alpha x vx a₀ va i w end j₀ a j = end - j
 
-elem32-requires : tie.Need-elem32-requires Inv-loop μ-loop
-elem32-requires c κs = column-shows _ _ _ (c .before .before .pre .0 .x) _ (c .before .before .pre .1)
+elem-requires : tie.Need-elem-requires Inv-loop μ-loop
+elem-requires c κs = column-shows _ _ _ (c .before .before .pre .0 .x) _ (c .before .before .pre .1)
 
 end-col-requires : tie.Need-end-col-requires Inv-loop μ-loop
 end-col-requires c κs = let s = c .before .before .before .before .before in row-lt _ _ (s .pre .0 .target) _ (s .pre .1) _ (c .rows .ensures ∙ sym (s .pre .0 .target .cols))
@@ -63,7 +63,7 @@ returns c =
     (l .inv .1)
     (omega arith)
     (l .inv .3)
-    (her-same real32 (p .alpha) (elem real32 (now (p .x)) (p .vx)) (p .i) _ (c .before .before .before .before .before .scale-real .ensures ∙ ap (real32 .scaleReal (p .alpha)) (c .before .before .before .before .before .before .elem32 .ensures)))
+    (her-same real32 (p .alpha) (elem real32 (now (p .x)) (p .vx)) (p .i) _ (c .before .before .before .before .before .scale-real .ensures ∙ ap (real32 .scaleReal (p .alpha)) (c .before .before .before .before .before .before .elem .ensures)))
 
 pub her-row-spec : {M : Type 1} → statement M
 her-row-spec =
@@ -71,7 +71,7 @@ her-row-spec =
     (tie.spec
     Inv-loop
     μ-loop
-    elem32-requires
+    elem-requires
     (λ c κs. tt)
     (λ c κs. tt)
     end-col-requires

@@ -20,11 +20,11 @@ Inv-loop x vx y vy a₀ va i w w2 end j₀ a j = (j₀ ≤ j) × (j ≤ end) × 
 abbrev μ-loop : tie.MeasureT-loop
 μ-loop x vx y vy a₀ va i w w2 end j₀ a j = end - j
 
-elem64-requires : tie.Need-elem64-requires Inv-loop μ-loop
-elem64-requires c κs = column-shows _ _ _ (c .before .before .before .pre .0 .x) _ (c .before .before .before .pre .1)
+elem-requires : tie.Need-elem-requires Inv-loop μ-loop
+elem-requires c κs = column-shows _ _ _ (c .before .before .before .pre .0 .x) _ (c .before .before .before .pre .1)
 
-elem64-requires-2 : tie.Need-elem64-requires-2 Inv-loop μ-loop
-elem64-requires-2 c κs = column-shows _ _ _ (c .before .before .before .before .before .before .pre .0 .y) _ (c .before .before .before .before .before .before .pre .1)
+elem-requires-2 : tie.Need-elem-requires-2 Inv-loop μ-loop
+elem-requires-2 c κs = column-shows _ _ _ (c .before .before .before .before .before .before .pre .0 .y) _ (c .before .before .before .before .before .before .pre .1)
 
 end-col-requires : tie.Need-end-col-requires Inv-loop μ-loop
 end-col-requires c κs = let s = c .before .before .before .before .before .before .before .before .before in row-lt _ _ (s .pre .0 .target) _ (s .pre .1) _ (c .cols .ensures)
@@ -69,8 +69,8 @@ returns c =
     (omega arith)
     (l .inv .3)
     (her2-same real64 (p .alpha .0) x y (p .i) _ _
-    (c .before .before .before .before .before .before .before .before .mul .ensures ∙ ap (real64 .mul (p .alpha .0)) (c .before .before .before .before .before .before .before .before .before .elem64 .ensures))
-    (c .before .before .before .before .before .mul2 .ensures ∙ (λ t. real64 .mul (c .before .before .before .before .before .before .before .conj .ensures t) (c .before .before .before .before .before .before .elem642 .ensures t))))
+    (c .before .before .before .before .before .before .before .before .mul .ensures ∙ ap (real64 .mul (p .alpha .0)) (c .before .before .before .before .before .before .before .before .before .elem .ensures))
+    (c .before .before .before .before .before .mul2 .ensures ∙ (λ t. real64 .mul (c .before .before .before .before .before .before .before .conj .ensures t) (c .before .before .before .before .before .before .elem2 .ensures t))))
 
 pub her2-row-spec : {M : Type 1} → statement M
 her2-row-spec =
@@ -78,10 +78,10 @@ her2-row-spec =
     (tie.spec
     Inv-loop
     μ-loop
-    elem64-requires
+    elem-requires
     (λ c κs. tt)
     (λ c κs. tt)
-    elem64-requires-2
+    elem-requires-2
     (λ c κs. tt)
     (λ c κs. tt)
     end-col-requires

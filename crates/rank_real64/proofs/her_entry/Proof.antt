@@ -13,31 +13,31 @@ use Rattle.rank_real64.proofs.her_entry.Tie as tie
 place-requires : tie.Need-place-requires
 place-requires c κs = shown _ _ _ _ (c .before .before .pre .1) (omega arith)
 
-get64-requires : tie.Need-get64-requires
-get64-requires c κs = inside _ _ _ _ (c .before .before .before .before .pre .1) _ (c .before .place .ensures)
+get-requires : tie.Need-get-requires
+get-requires c κs = inside _ _ _ _ (c .before .before .before .before .pre .1) _ (c .before .place .ensures)
 
-put64-requires : tie.Need-put64-requires
-put64-requires c κs = inside _ _ _ _ (c .before .before .before .before .before .before .before .before .before .before .pre .1) _ (c .before .before .before .before .before .before .before .place .ensures)
+put-requires : tie.Need-put-requires
+put-requires c κs = inside _ _ _ _ (c .before .before .before .before .before .before .before .before .before .before .pre .1) _ (c .before .before .before .before .before .before .before .place .ensures)
 
 returns : tie.Need-returns
 returns c =
     let p = c .before .before .before .before .before .before .before .before .before .before .before .before .before .args in
     put-replaced real64 (p .va) (p .i) (p .j) (addOne real64 (p .w .0) (elem real64 (now (p .x)) (p .vx)) (p .j)) (now (p .a)) _ _ _ _
     (c .before .before .before .before .before .before .before .before .before .before .place .ensures)
-    (c .before .before .before .before .before .before .before .before .get64 .ensures)
-    (more real64 _ _ _ _ _ _ _ refl (c .before .before .before .before .before .before .conj .ensures ∙ ap (real64 .conj) (c .before .before .before .before .before .before .before .elem64 .ensures)) (c .before .before .before .before .before .mul .ensures) (c .before .before .before .add .ensures))
-    (c .before .before .put64 .ensures)
+    (c .before .before .before .before .before .before .before .before .get .ensures)
+    (more real64 _ _ _ _ _ _ _ refl (c .before .before .before .before .before .before .conj .ensures ∙ ap (real64 .conj) (c .before .before .before .before .before .before .before .elem .ensures)) (c .before .before .before .before .before .mul .ensures) (c .before .before .before .add .ensures))
+    (c .before .before .put .ensures)
 
 pub her-entry-spec : {M : Type 1} → statement M
 her-entry-spec =
     tie.close
     (tie.spec
     place-requires
-    get64-requires
+    get-requires
     (λ c κs. search needs)
     (λ c κs. tt)
     (λ c κs. tt)
     (λ c κs. tt)
-    put64-requires
+    put-requires
     (λ c. search needs)
     returns)

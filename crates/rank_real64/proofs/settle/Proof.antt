@@ -12,29 +12,29 @@ use Rattle.rank_real64.proofs.settle.Tie as tie
 place-requires : tie.Need-place-requires
 place-requires c κs = shown _ _ _ _ (c .before .pre) (omega arith)
 
-get64-requires : tie.Need-get64-requires
-get64-requires c κs = inside _ _ _ _ (c .before .before .before .pre) _ (c .before .place .ensures)
+get-requires : tie.Need-get-requires
+get-requires c κs = inside _ _ _ _ (c .before .before .before .pre) _ (c .before .place .ensures)
 
-put64-requires : tie.Need-put64-requires
-put64-requires c κs = inside _ _ _ _ (c .before .before .before .before .before .before .before .pre) _ (c .before .before .before .before .before .place .ensures)
+put-requires : tie.Need-put-requires
+put-requires c κs = inside _ _ _ _ (c .before .before .before .before .before .before .before .pre) _ (c .before .before .before .before .before .place .ensures)
 
 returns : tie.Need-returns
 returns c =
     let p = c .before .before .before .before .before .before .before .before .before .before .args in
     put-replaced real64 (p .v) (p .i) (p .j) (λ old. real64 .add (scaleBy64 (p .beta) old) (p .more .0)) (now (p .c)) _ _ _ _
     (c .before .before .before .before .before .before .before .before .place .ensures)
-    (c .before .before .before .before .before .before .get64 .ensures)
+    (c .before .before .before .before .before .before .get .ensures)
     (c .before .before .before .add .ensures ∙ ap (λ z. real64 .add z (p .more .0)) (c .before .before .before .before .before .scale .ensures))
-    (c .before .before .put64 .ensures)
+    (c .before .before .put .ensures)
 
 pub settle-spec : {M : Type 1} → statement M
 settle-spec =
     tie.close
     (tie.spec
     place-requires
-    get64-requires
+    get-requires
     (λ c κs. tt)
     (λ c κs. tt)
-    put64-requires
+    put-requires
     (λ c. search needs)
     returns)

@@ -17,14 +17,14 @@ passed-requires c κs = search needs
 place-requires : tie.Need-place-requires
 place-requires c κs = shown _ _ _ _ _ _ (c .before .before .answer .ensures) (c .before .passed .ensures) (c .if1 .taken) (omega arith)
 
-get64-requires : tie.Need-get64-requires
-get64-requires c κs = omega (arith, in-slab _ _ _ _ _ _ (c .before .before .before .answer .ensures) (c .before .before .passed .ensures) (c .before .if1 .taken), c .place .ensures)
+get-requires : tie.Need-get-requires
+get-requires c κs = omega (arith, in-slab _ _ _ _ _ _ (c .before .before .before .answer .ensures) (c .before .before .passed .ensures) (c .before .if1 .taken), c .place .ensures)
 
 returns : tie.Need-returns
 returns c =
     let a = c .before .before .before .before .before .before .args in
     found-number real64 (foundElement real64) (refusedRead real64) (now (a .s)) (a .v) (a .r) (a .c) _ _ (c .before .before .before .before .answer .ensures) (c .before .before .before .passed .ensures)
-    (c .before .before .if1 .taken) _ _ (c .before .place .ensures) (c .get64 .ensures)
+    (c .before .before .if1 .taken) _ _ (c .before .place .ensures) (c .get .ensures)
 
 returns-2 : tie.Need-returns-2
 returns-2 c =
@@ -32,4 +32,4 @@ returns-2 c =
     found-refusal real64 (foundElement real64) (refusedRead real64) (now (a .s)) (a .v) (a .r) (a .c) _ _ (c .before .before .answer .ensures) (c .before .passed .ensures) (c .if1 .left)
 
 pub find-spec : {M : Type 1} → statement M
-find-spec = tie.close (tie.spec answer-requires passed-requires place-requires get64-requires returns returns-2)
+find-spec = tie.close (tie.spec answer-requires passed-requires place-requires get-requires returns returns-2)

@@ -17,14 +17,14 @@ passed-requires c κs = search needs
 place-requires : tie.Need-place-requires
 place-requires c κs = shown _ _ _ _ _ _ (c .before .before .answer .ensures) (c .before .passed .ensures) (c .if1 .taken) (omega arith)
 
-get-complex-requires : tie.Need-get-complex-requires
-get-complex-requires c κs = omega (arith, in-slab _ _ _ _ _ _ (c .before .before .before .answer .ensures) (c .before .before .passed .ensures) (c .before .if1 .taken), c .place .ensures)
+get-requires : tie.Need-get-requires
+get-requires c κs = omega (arith, in-slab _ _ _ _ _ _ (c .before .before .before .answer .ensures) (c .before .before .passed .ensures) (c .before .if1 .taken), c .place .ensures)
 
 returns : tie.Need-returns
 returns c =
     let a = c .before .before .before .before .before .before .args in
     found-number complex (foundElement complex) (refusedRead complex) (now (a .s)) (a .v) (a .r) (a .c) _ _ (c .before .before .before .before .answer .ensures) (c .before .before .before .passed .ensures)
-    (c .before .before .if1 .taken) _ _ (c .before .place .ensures) (c .get-complex .ensures)
+    (c .before .before .if1 .taken) _ _ (c .before .place .ensures) (c .get .ensures)
 
 returns-2 : tie.Need-returns-2
 returns-2 c =
@@ -32,4 +32,4 @@ returns-2 c =
     found-refusal complex (foundElement complex) (refusedRead complex) (now (a .s)) (a .v) (a .r) (a .c) _ _ (c .before .before .answer .ensures) (c .before .passed .ensures) (c .if1 .left)
 
 pub find-complex-spec : {M : Type 1} → statement M
-find-complex-spec = tie.close (tie.spec answer-requires passed-requires place-requires get-complex-requires returns returns-2)
+find-complex-spec = tie.close (tie.spec answer-requires passed-requires place-requires get-requires returns returns-2)

@@ -24,13 +24,13 @@ loop-holds c = (omega arith, omega arith, plus-first complex _ _ _)
 at-requires : tie.Need-at-requires Inv-loop μ-loop
 at-requires c κs = span-left _ _ _ _ _ _ _ _ (c .before .before .before .before .pre) _ _ refl (c .before .loop .inv .0) (omega arith)
 
-elem-complex-requires : tie.Need-elem-complex-requires Inv-loop μ-loop
-elem-complex-requires c κs = span-right _ _ _ _ _ _ _ _ (c .before .before .before .before .before .pre) _ _ refl (c .before .before .loop .inv .0) (omega arith)
+elem-requires : tie.Need-elem-requires Inv-loop μ-loop
+elem-requires c κs = span-right _ _ _ _ _ _ _ _ (c .before .before .before .before .before .pre) _ _ refl (c .before .before .loop .inv .0) (omega arith)
 
 loop-again : tie.Need-loop-again Inv-loop μ-loop
 loop-again c =
     let i = c .before .before .before .before .before .loop .inv in
-    (omega arith, omega arith, plus-on complex _ _ _ _ _ _ _ (i .0) (i .2) (weighed complex _ _ _ _ _ (c .before .before .before .at .ensures) (c .before .before .elem-complex .ensures) (c .before .mul .ensures)) (c .add .ensures))
+    (omega arith, omega arith, plus-on complex _ _ _ _ _ _ _ (i .0) (i .2) (weighed complex _ _ _ _ _ (c .before .before .before .at .ensures) (c .before .before .elem .ensures) (c .before .mul .ensures)) (c .add .ensures))
 
 returns : tie.Need-returns Inv-loop μ-loop
 returns c = let i = c .before .loop .inv in plus-done complex _ _ _ _ _ _ _ refl (i .1) (omega arith) (i .2)
@@ -44,7 +44,7 @@ add-run-spec =
     end-fits
     loop-holds
     at-requires
-    elem-complex-requires
+    elem-requires
     (λ c κs. tt)
     (λ c κs. tt)
     (λ c. omega (arith, run-end _ _ _ _ _ _ _ _ (c .before .before .before .before .before .before .before .before .pre) (omega arith)))

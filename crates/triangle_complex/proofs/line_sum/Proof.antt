@@ -12,8 +12,8 @@ use Rattle.triangle_complex.proofs.line_sum.Tie as tie
 own-weight-requires : tie.Need-own-weight-requires
 own-weight-requires c κs = search needs
 
-elem-complex-requires : tie.Need-elem-complex-requires
-elem-complex-requires c κs = search needs
+elem-requires : tie.Need-elem-requires
+elem-requires c κs = search needs
 
 mul-requires : tie.Need-mul-requires
 mul-requires c κs = search needs
@@ -43,17 +43,17 @@ add-requires-2 : tie.Need-add-requires-2
 add-requires-2 c κs = search needs
 
 returns : tie.Need-returns
-returns c = let p = c .before .before .before .before .before .before .before .before .before .args in sum-behind complex (p .sys) (now (p .a)) (now (p .b)) (p .q) (p .l) _ _ _ _ (c .before .before .before .before .before .before .own-weight .ensures) (c .before .before .before .before .before .elem-complex .ensures) (c .before .before .before .before .mul .ensures) (λ i. record { re = zero-literal binary64 i; im = zero-literal binary64 i }) _ _ _ (c .before .before .before .if1 .taken) (c .before .before .rows .ensures) (c .before .add .ensures) (c .add-run .ensures)
+returns c = let p = c .before .before .before .before .before .before .before .before .before .args in sum-behind complex (p .sys) (now (p .a)) (now (p .b)) (p .q) (p .l) _ _ _ _ (c .before .before .before .before .before .before .own-weight .ensures) (c .before .before .before .before .before .elem .ensures) (c .before .before .before .before .mul .ensures) (λ i. record { re = zero-literal binary64 i; im = zero-literal binary64 i }) _ _ _ (c .before .before .before .if1 .taken) (c .before .before .rows .ensures) (c .before .add .ensures) (c .add-run .ensures)
 
 returns-2 : tie.Need-returns-2
-returns-2 c = let p = c .before .before .before .before .before .before .before .before .args in sum-before complex (p .sys) (now (p .a)) (now (p .b)) (p .q) (p .l) _ _ _ _ (c .before .before .before .before .before .own-weight .ensures) (c .before .before .before .before .elem-complex .ensures) (c .before .before .before .mul .ensures) (λ i. record { re = zero-literal binary64 i; im = zero-literal binary64 i }) _ _ (c .before .before .if1 .left) (c .before .add-run2 .ensures) (c .add2 .ensures)
+returns-2 c = let p = c .before .before .before .before .before .before .before .before .args in sum-before complex (p .sys) (now (p .a)) (now (p .b)) (p .q) (p .l) _ _ _ _ (c .before .before .before .before .before .own-weight .ensures) (c .before .before .before .before .elem .ensures) (c .before .before .before .mul .ensures) (λ i. record { re = zero-literal binary64 i; im = zero-literal binary64 i }) _ _ (c .before .before .if1 .left) (c .before .add-run2 .ensures) (c .add2 .ensures)
 
 pub line-sum-spec : {M : Type 1} → statement M
 line-sum-spec =
     tie.close
     (tie.spec
     own-weight-requires
-    elem-complex-requires
+    elem-requires
     mul-requires
     rows-requires
     sub-n

@@ -8,8 +8,8 @@ use borrow.Author.Needs.{needs}
 use Rattle.triangle_complex.proofs.scale_one.Statement.{statement}
 use Rattle.triangle_complex.proofs.scale_one.Tie as tie
 
-elem-complex-requires : tie.Need-elem-complex-requires
-elem-complex-requires c κs = search needs
+elem-requires : tie.Need-elem-requires
+elem-requires c κs = search needs
 
 place-requires : tie.Need-place-requires
 place-requires c κs = shown _ _ _ _ (c .before .before .before .before .pre) (omega arith)
@@ -17,8 +17,8 @@ place-requires c κs = shown _ _ _ _ (c .before .before .before .before .pre) (o
 mul-requires : tie.Need-mul-requires
 mul-requires c κs = search needs
 
-put-complex-requires : tie.Need-put-complex-requires
-put-complex-requires c κs = inside _ _ _ _ (c .before .before .before .before .before .before .pre) _ (c .before .place .ensures)
+put-requires : tie.Need-put-requires
+put-requires c κs = inside _ _ _ _ (c .before .before .before .before .before .before .pre) _ (c .before .place .ensures)
 
 same-length : tie.Need-same-length
 same-length c = search needs
@@ -27,9 +27,9 @@ returns : tie.Need-returns
 unfolding updateOne
 returns c =
     let p = c .before .before .before .before .before .before .before .before .before .args in
-    c .before .before .put-complex .ensures ∙ (λ i. complex .put (now (p .b)) (c .before .before .before .before .place .ensures i) ((c .before .before .before .mul .ensures ∙ ap (complex .mul (p .alpha)) (c .before .before .before .before .before .before .elem-complex .ensures)) i))
+    c .before .before .put .ensures ∙ (λ i. complex .put (now (p .b)) (c .before .before .before .before .place .ensures i) ((c .before .before .before .mul .ensures ∙ ap (complex .mul (p .alpha)) (c .before .before .before .before .before .before .elem .ensures)) i))
 
 pub scale-one-spec : {M : Type 1} → statement M
 scale-one-spec =
     tie.close
-    (tie.spec elem-complex-requires place-requires mul-requires put-complex-requires same-length returns)
+    (tie.spec elem-requires place-requires mul-requires put-requires same-length returns)

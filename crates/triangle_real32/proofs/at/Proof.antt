@@ -6,11 +6,11 @@ use borrow.Author.Needs.{needs}
 use Rattle.triangle_real32.proofs.at.Statement.{statement}
 use Rattle.triangle_real32.proofs.at.Tie as tie
 
-elem32-requires : tie.Need-elem32-requires
-elem32-requires c κs = search needs
+elem-requires : tie.Need-elem-requires
+elem-requires c κs = search needs
 
 returns : tie.Need-returns
-returns c = let p = c .before .before .args in c .elem32 .ensures ∙ elem-conj-real binary32 (p .conjugated) (now (p .s)) (p .v) (p .i) (p .j)
+returns c = let p = c .before .before .args in c .elem .ensures ∙ elem-conj-real binary32 (p .conjugated) (now (p .s)) (p .v) (p .i) (p .j)
 
 pub at-spec : {M : Type 1} → statement M
-at-spec = tie.close (tie.spec elem32-requires returns)
+at-spec = tie.close (tie.spec elem-requires returns)

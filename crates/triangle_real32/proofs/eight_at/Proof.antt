@@ -19,11 +19,11 @@ abbrev μ-loop : tie.MeasureT-loop
 loop-holds : tie.Need-loop-holds Inv-loop μ-loop
 loop-holds c = part-start real32 (real-slab binary32) _ _ refl
 
-elem32-requires : tie.Need-elem32-requires Inv-loop μ-loop
-elem32-requires c κs = let h = c .before .before .before .pre in record { fits = h .fits; row = h .row; col = omega (arith, h .col) }
+elem-requires : tie.Need-elem-requires Inv-loop μ-loop
+elem-requires c κs = let h = c .before .before .before .pre in record { fits = h .fits; row = h .row; col = omega (arith, h .col) }
 
 loop-again : tie.Need-loop-again Inv-loop μ-loop
-loop-again c = let l = c .before .before .loop in part-next real32 (real-slab binary32) _ _ (l .next) (l .t) _ (omega arith) (l .inv) (c .elem32 .ensures)
+loop-again c = let l = c .before .before .loop in part-next real32 (real-slab binary32) _ _ (l .next) (l .t) _ (omega arith) (l .inv) (c .elem .ensures)
 
 returns : tie.Need-returns Inv-loop μ-loop
 returns c = let l = c .before .loop in part-end real32 (real-slab binary32) _ _ (l .next) (l .t) (omega arith) (l .inv)
@@ -36,7 +36,7 @@ eight-at-spec =
     μ-loop
     loop-holds
     (λ c. omega arith)
-    elem32-requires
+    elem-requires
     (λ c. omega arith)
     (λ c. omega arith)
     (λ c. omega arith)

@@ -23,14 +23,14 @@ mul-requires c κs = search needs
 place-requires : tie.Need-place-requires
 place-requires c κs = let p = c .before .before .before .before .before .before .before .before .before .pre in shown _ _ _ _ (unknown-shown _ _ _ (p .ready) _ _ (omega (arith, c .before .before .before .before .in-order .ensures .1, c .before .before .before .before .before .rows .ensures)) (p .line)) (omega arith)
 
-put32-requires : tie.Need-put32-requires
-put32-requires c κs = let p = c .before .before .before .before .before .before .before .before .before .before .pre in inside _ _ _ _ (unknown-shown _ _ _ (p .ready) _ _ (omega (arith, c .before .before .before .before .before .in-order .ensures .1, c .before .before .before .before .before .before .rows .ensures)) (p .line)) _ (c .place .ensures)
+put-requires : tie.Need-put-requires
+put-requires c κs = let p = c .before .before .before .before .before .before .before .before .before .before .pre in inside _ _ _ _ (unknown-shown _ _ _ (p .ready) _ _ (omega (arith, c .before .before .before .before .before .in-order .ensures .1, c .before .before .before .before .before .before .rows .ensures)) (p .line)) _ (c .place .ensures)
 
 same-length : tie.Need-same-length
 same-length c = search needs
 
 returns : tie.Need-returns
-returns c = multiply-one-is real32 _ _ _ _ _ _ _ _ _ _ _ _ _ refl (c .before .before .before .before .before .before .before .before .before .rows .ensures) (c .before .before .before .before .before .before .before .before .in-order .ensures .0) (c .before .before .before .place .ensures) (c .before .before .before .before .before .before .line-sum .ensures) (c .before .before .before .before .before .mul .ensures) (c .before .before .put32 .ensures)
+returns c = multiply-one-is real32 _ _ _ _ _ _ _ _ _ _ _ _ _ refl (c .before .before .before .before .before .before .before .before .before .rows .ensures) (c .before .before .before .before .before .before .before .before .in-order .ensures .0) (c .before .before .before .place .ensures) (c .before .before .before .before .before .before .line-sum .ensures) (c .before .before .before .before .before .mul .ensures) (c .before .before .put .ensures)
 
 pub multiply-one-spec : {M : Type 1} → statement M
 multiply-one-spec =
@@ -41,6 +41,6 @@ multiply-one-spec =
     line-sum-requires
     mul-requires
     place-requires
-    put32-requires
+    put-requires
     same-length
     returns)

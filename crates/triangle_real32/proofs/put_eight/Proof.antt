@@ -25,8 +25,8 @@ place-requires c κs =
     let p = g .pre in
     shown _ _ _ _ (in-row _ _ _ _ _ (g .args .v .cols) (p .0 .fits) refl (p .0 .row) refl (omega (arith, p .0 .col, p .2))) (omega (arith, g .good .0))
 
-put32-requires : tie.Need-put32-requires Inv-loop μ-loop
-put32-requires c κs =
+put-requires : tie.Need-put-requires Inv-loop μ-loop
+put-requires c κs =
     let g = c .before .before .before .before .before in
     let p = g .pre in
     inside _ _ _ _ (in-row _ _ _ _ _ (g .args .v .cols) (p .0 .fits) (c .before .before .before .loop .inv .1) (p .0 .row) refl (omega (arith, p .0 .col, p .2))) _ (c .place .ensures)
@@ -34,7 +34,7 @@ put32-requires c κs =
 loop-again : tie.Need-loop-again Inv-loop μ-loop
 loop-again c =
     let l = c .before .before .before .before .before .before .loop in
-    (omega arith, c .before .before .put32 .kept .0 ∙ l .inv .1, walk-next _ _ _ _ _ (l .inv .2) (rw (c .before .before .before .place .ensures) at (c .before .before .put32 .ensures)))
+    (omega arith, c .before .before .put .kept .0 ∙ l .inv .1, walk-next _ _ _ _ _ (l .inv .2) (rw (c .before .before .before .place .ensures) at (c .before .before .put .ensures)))
 
 returns : tie.Need-returns Inv-loop μ-loop
 returns c = walk-end _ _ _ _ _ (c .before .loop .inv .0) (omega arith) (c .before .loop .inv .2)
@@ -52,7 +52,7 @@ put-eight-spec =
     place-requires
     (λ c. omega arith)
     (λ c. omega arith)
-    put32-requires
+    put-requires
     (λ c. omega arith)
     (λ c. omega arith)
     loop-again

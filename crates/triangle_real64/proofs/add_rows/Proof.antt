@@ -27,11 +27,11 @@ loop-holds c =
     let p = g .args in
     (omega arith, omega arith, rows-first binary64 (real-commutes binary64) (p .sys) (now (p .a)) (now (p .b)) (p .q) (p .from) (p .xs) (good-length (eFloat binary64) 8 (p .xs) _ (g .good .1 .1 .1 .1 .1 .1 .0)))
 
-elem64-requires : tie.Need-elem64-requires Inv-loop μ-loop
-elem64-requires c κs = let r = c .before .before .before .before .before .pre in unknown-shown _ _ _ (r .0 .ready) _ _ (omega (arith, r .1)) (omega (arith, r .0 .one))
+elem-requires : tie.Need-elem-requires Inv-loop μ-loop
+elem-requires c κs = let r = c .before .before .before .before .before .pre in unknown-shown _ _ _ (r .0 .ready) _ _ (omega (arith, r .1)) (omega (arith, r .0 .one))
 
-add-eight64-requires : tie.Need-add-eight64-requires Inv-loop μ-loop
-add-eight64-requires c κs =
+plus-eight-requires : tie.Need-plus-eight-requires Inv-loop μ-loop
+plus-eight-requires c κs =
     let r = c .before .before .before .before .before .before .pre in
     rw (c .before .before .before .transposed .ensures) (rows-shown _ _ _ _ (r .0) _ (omega (arith, r .1)))
 
@@ -39,7 +39,7 @@ loop-again : tie.Need-loop-again Inv-loop μ-loop
 loop-again c =
     let p = c .before .before .before .before .before .before .before .args in
     let l = c .before .before .before .loop in
-    (omega arith, omega arith, rows-on binary64 (real-commutes binary64) (p .sys) (now (p .a)) (now (p .b)) (p .q) (p .from) (p .xs) (l .p) (l .sums) _ _ (l .inv .0) (c .before .elem64 .ensures) (l .inv .2) (rw (sym (c .before .before .before .before .transposed .ensures)) (c .add-eight64 .ensures)))
+    (omega arith, omega arith, rows-on binary64 (real-commutes binary64) (p .sys) (now (p .a)) (now (p .b)) (p .q) (p .from) (p .xs) (l .p) (l .sums) _ _ (l .inv .0) (c .before .elem .ensures) (l .inv .2) (rw (sym (c .before .before .before .before .transposed .ensures)) (c .plus-eight .ensures)))
 
 returns : tie.Need-returns Inv-loop μ-loop
 returns c =
@@ -56,8 +56,8 @@ add-rows-spec =
     (λ c κs. tt)
     (λ c. let r = c .before .before .before .pre in omega (arith, r .1, r .0 .ready .b .rows-le))
     loop-holds
-    elem64-requires
-    add-eight64-requires
+    elem-requires
+    plus-eight-requires
     (λ c. let r = c .before .before .before .before .before .before .before .pre in omega (arith, r .1, r .0 .ready .b .rows-le))
     (λ c. omega arith)
     loop-again

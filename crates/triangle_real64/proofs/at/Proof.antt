@@ -6,11 +6,11 @@ use borrow.Author.Needs.{needs}
 use Rattle.triangle_real64.proofs.at.Statement.{statement}
 use Rattle.triangle_real64.proofs.at.Tie as tie
 
-elem64-requires : tie.Need-elem64-requires
-elem64-requires c κs = search needs
+elem-requires : tie.Need-elem-requires
+elem-requires c κs = search needs
 
 returns : tie.Need-returns
-returns c = let p = c .before .before .args in c .elem64 .ensures ∙ elem-conj-real binary64 (p .conjugated) (now (p .s)) (p .v) (p .i) (p .j)
+returns c = let p = c .before .before .args in c .elem .ensures ∙ elem-conj-real binary64 (p .conjugated) (now (p .s)) (p .v) (p .i) (p .j)
 
 pub at-spec : {M : Type 1} → statement M
-at-spec = tie.close (tie.spec elem64-requires returns)
+at-spec = tie.close (tie.spec elem-requires returns)

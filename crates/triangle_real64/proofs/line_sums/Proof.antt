@@ -22,8 +22,8 @@ sub-n c = search needs
 sub-n-2 : tie.Need-sub-n-2
 sub-n-2 c = search needs
 
-add-eight64-requires : tie.Need-add-eight64-requires
-add-eight64-requires c κs = search needs
+plus-eight-requires : tie.Need-plus-eight-requires
+plus-eight-requires c κs = search needs
 
 add-add-run-eight : tie.Need-add-add-run-eight
 add-add-run-eight c = search needs
@@ -34,18 +34,18 @@ add-run-eight-requires c κs = let p = c .before .before .before .before .before
 add-run-eight-requires-2 : tie.Need-add-run-eight-requires-2
 add-run-eight-requires-2 c κs = let p = c .before .before .before .before .pre in run-spans _ _ _ (p .ready) _ _ _ _ (p .unknown) (p .line) (omega (arith, p .unknown))
 
-add-eight64-requires-2 : tie.Need-add-eight64-requires-2
-add-eight64-requires-2 c κs = search needs
+plus-eight-requires-2 : tie.Need-plus-eight-requires-2
+plus-eight-requires-2 c κs = search needs
 
 returns : tie.Need-returns
 returns c =
     let p = c .before .before .before .before .before .before .before .args in
-    sums-behind real64 (p .sys) (now (p .a)) (now (p .b)) (p .q) (p .l) _ _ _ _ (c .before .before .before .before .own-weight .ensures) (eight-of binary64 _) (zero-literal binary64) _ _ (c .before .before .before .if1 .taken) (c .before .before .rows .ensures) (c .before .add-eight64 .ensures) (c .add-run-eight .ensures)
+    sums-behind real64 (p .sys) (now (p .a)) (now (p .b)) (p .q) (p .l) _ _ _ _ (c .before .before .before .before .own-weight .ensures) (eight-of binary64 _) (zero-literal binary64) _ _ (c .before .before .before .if1 .taken) (c .before .before .rows .ensures) (c .before .plus-eight .ensures) (c .add-run-eight .ensures)
 
 returns-2 : tie.Need-returns-2
 returns-2 c =
     let p = c .before .before .before .before .before .before .args in
-    sums-before real64 (p .sys) (now (p .a)) (now (p .b)) (p .q) (p .l) _ _ _ _ (c .before .before .before .own-weight .ensures) (eight-of binary64 _) (zero-literal binary64) _ (c .before .before .if1 .left) (c .before .add-run-eight2 .ensures) (c .add-eight642 .ensures)
+    sums-before real64 (p .sys) (now (p .a)) (now (p .b)) (p .q) (p .l) _ _ _ _ (c .before .before .before .own-weight .ensures) (eight-of binary64 _) (zero-literal binary64) _ (c .before .before .if1 .left) (c .before .add-run-eight2 .ensures) (c .plus-eight2 .ensures)
 
 pub line-sums-spec : {M : Type 1} → statement M
 line-sums-spec =
@@ -55,10 +55,10 @@ line-sums-spec =
     rows-requires
     sub-n
     sub-n-2
-    add-eight64-requires
+    plus-eight-requires
     add-add-run-eight
     add-run-eight-requires
     add-run-eight-requires-2
-    add-eight64-requires-2
+    plus-eight-requires-2
     returns
     returns-2)

@@ -7,14 +7,14 @@ use Rattle.triangle_real64.proofs.own_term.Tie as tie
 own-weight-requires : tie.Need-own-weight-requires
 own-weight-requires c κs = search needs
 
-elem64-requires : tie.Need-elem64-requires
-elem64-requires c κs = search needs
+elem-requires : tie.Need-elem-requires
+elem-requires c κs = search needs
 
 pub own-term-spec : {M : Type 1} → statement M
 own-term-spec =
     tie.close
     (tie.spec
     own-weight-requires
-    elem64-requires
+    elem-requires
     (λ c κs. tt)
-    (λ c. weighed real64 _ _ _ _ _ (c .before .before .own-weight .ensures) (c .before .elem64 .ensures) (c .mul .ensures)))
+    (λ c. weighed real64 _ _ _ _ _ (c .before .before .own-weight .ensures) (c .before .elem .ensures) (c .mul .ensures)))

@@ -30,14 +30,14 @@ loop-holds c =
 at-requires : tie.Need-at-requires Inv-loop μ-loop
 at-requires c κs = span-left _ _ _ _ _ _ _ _ (c .before .before .before .before .pre) _ _ refl (c .before .loop .inv .0) (omega arith)
 
-sub-eight64-requires : tie.Need-sub-eight64-requires Inv-loop μ-loop
-sub-eight64-requires c κs = span-right _ _ _ _ _ _ _ _ (c .before .before .before .before .before .pre) _ _ refl (c .before .before .loop .inv .0) (omega arith)
+minus-eight-requires : tie.Need-minus-eight-requires Inv-loop μ-loop
+minus-eight-requires c κs = span-right _ _ _ _ _ _ _ _ (c .before .before .before .before .before .pre) _ _ refl (c .before .before .loop .inv .0) (omega arith)
 
 loop-again : tie.Need-loop-again Inv-loop μ-loop
 loop-again c =
     let p = c .before .before .before .before .before .before .args in
     let i = c .before .before .before .loop .inv in
-    (omega arith, omega arith, less-on real64 (p .conjugated) (now (p .a)) (p .va) (now (p .b)) (p .vb) (p .q) (p .l) (p .from) (p .xs) _ _ _ _ (i .0) (c .before .at .ensures) (i .2) (c .sub-eight64 .ensures))
+    (omega arith, omega arith, less-on real64 (p .conjugated) (now (p .a)) (p .va) (now (p .b)) (p .vb) (p .q) (p .l) (p .from) (p .xs) _ _ _ _ (i .0) (c .before .at .ensures) (i .2) (c .minus-eight .ensures))
 
 returns : tie.Need-returns Inv-loop μ-loop
 returns c =
@@ -54,7 +54,7 @@ reduce-eight-spec =
     end-fits
     loop-holds
     at-requires
-    sub-eight64-requires
+    minus-eight-requires
     (λ c. omega (arith, run-end _ _ _ _ _ _ _ _ (c .before .before .before .before .before .before .pre) (omega arith)))
     (λ c. omega arith)
     loop-again

@@ -8,8 +8,8 @@ use borrow.Author.Needs.{needs}
 use Rattle.triangle_real64.proofs.scale_one.Statement.{statement}
 use Rattle.triangle_real64.proofs.scale_one.Tie as tie
 
-elem64-requires : tie.Need-elem64-requires
-elem64-requires c κs = search needs
+elem-requires : tie.Need-elem-requires
+elem-requires c κs = search needs
 
 place-requires : tie.Need-place-requires
 place-requires c κs = shown _ _ _ _ (c .before .before .before .before .pre) (omega arith)
@@ -17,8 +17,8 @@ place-requires c κs = shown _ _ _ _ (c .before .before .before .before .pre) (o
 mul-requires : tie.Need-mul-requires
 mul-requires c κs = search needs
 
-put64-requires : tie.Need-put64-requires
-put64-requires c κs = inside _ _ _ _ (c .before .before .before .before .before .before .pre) _ (c .before .place .ensures)
+put-requires : tie.Need-put-requires
+put-requires c κs = inside _ _ _ _ (c .before .before .before .before .before .before .pre) _ (c .before .place .ensures)
 
 same-length : tie.Need-same-length
 same-length c = search needs
@@ -27,9 +27,9 @@ returns : tie.Need-returns
 unfolding updateOne
 returns c =
     let p = c .before .before .before .before .before .before .before .before .before .args in
-    c .before .before .put64 .ensures ∙ (λ i. real64 .put (now (p .b)) (c .before .before .before .before .place .ensures i) ((c .before .before .before .mul .ensures ∙ ap (real64 .mul (p .alpha .0)) (c .before .before .before .before .before .before .elem64 .ensures)) i))
+    c .before .before .put .ensures ∙ (λ i. real64 .put (now (p .b)) (c .before .before .before .before .place .ensures i) ((c .before .before .before .mul .ensures ∙ ap (real64 .mul (p .alpha .0)) (c .before .before .before .before .before .before .elem .ensures)) i))
 
 pub scale-one-spec : {M : Type 1} → statement M
 scale-one-spec =
     tie.close
-    (tie.spec elem64-requires place-requires mul-requires put64-requires same-length returns)
+    (tie.spec elem-requires place-requires mul-requires put-requires same-length returns)

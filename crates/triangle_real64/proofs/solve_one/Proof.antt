@@ -20,8 +20,8 @@ in-order-requires c κs = subst (λ (m : ℕ). c .before .before .before .args .
 least-solved-requires : tie.Need-least-solved-requires
 least-solved-requires c κs = subst (λ (m : ℕ). c .before .before .before .before .args .k < m) (sym (c .before .rows .ensures)) (c .before .before .before .before .pre .unknown)
 
-elem64-requires : tie.Need-elem64-requires
-elem64-requires c κs = unknown-shown _ _ _ (c .before .before .before .before .before .before .pre .ready) _ _ (omega (arith, c .before .before .in-order .ensures .1, c .before .before .before .rows .ensures)) (c .before .before .before .before .before .before .pre .line)
+elem-requires : tie.Need-elem-requires
+elem-requires c κs = unknown-shown _ _ _ (c .before .before .before .before .before .before .pre .ready) _ _ (omega (arith, c .before .before .in-order .ensures .1, c .before .before .before .rows .ensures)) (c .before .before .before .before .before .before .pre .line)
 
 times-if-requires : tie.Need-times-if-requires
 times-if-requires c κs = search needs
@@ -35,8 +35,8 @@ by-pivot-requires c κs = pivot-shown _ _ 0 _ (c .before .before .before .before
 place-requires : tie.Need-place-requires
 place-requires c κs = shown _ _ _ _ (unknown-shown _ _ _ (c .before .before .before .before .before .before .before .before .before .before .before .before .pre .ready) _ _ (omega (arith, c .before .before .before .before .before .before .before .before .in-order .ensures .1, c .before .before .before .before .before .before .before .before .before .rows .ensures)) (c .before .before .before .before .before .before .before .before .before .before .before .before .pre .line)) (omega (arith, c .before .before .before .before .before .before .before .before .before .before .before .before .good .1 .1 .1 .1 .0))
 
-put64-requires : tie.Need-put64-requires
-put64-requires c κs = inside _ _ _ _ (unknown-shown _ _ _ (c .before .before .before .before .before .before .before .before .before .before .before .before .before .pre .ready) _ _ (omega (arith, c .before .before .before .before .before .before .before .before .before .in-order .ensures .1, c .before .before .before .before .before .before .before .before .before .before .rows .ensures)) (c .before .before .before .before .before .before .before .before .before .before .before .before .before .pre .line)) _ (c .place .ensures)
+put-requires : tie.Need-put-requires
+put-requires c κs = inside _ _ _ _ (unknown-shown _ _ _ (c .before .before .before .before .before .before .before .before .before .before .before .before .before .pre .ready) _ _ (omega (arith, c .before .before .before .before .before .before .before .before .before .in-order .ensures .1, c .before .before .before .before .before .before .before .before .before .before .rows .ensures)) (c .before .before .before .before .before .before .before .before .before .before .before .before .before .pre .line)) _ (c .place .ensures)
 
 same-length : tie.Need-same-length
 same-length c = search needs
@@ -44,7 +44,7 @@ same-length c = search needs
 returns : tie.Need-returns
 returns c =
     let p = c .before .before .before .before .before .before .before .before .before .before .before .before .before .before .before .before .args in
-    solve-one-is real64 (p .sys) (now (p .a)) (timesIf real64 (p .times) (p .alpha .0)) _ _ _ _ _ _ _ _ _ _ _ _ (c .before .before .before .before .before .before .before .before .before .before .before .before .before .rows .ensures) (c .before .before .before .before .before .before .before .before .before .before .before .before .in-order .ensures .0) (c .before .before .before .before .before .before .before .before .before .before .before .least-solved .ensures .0) (c .before .before .before .before .before .before .before .before .before .elem64 .ensures) (c .before .before .before .before .before .before .before .before .times-if .ensures) (c .before .before .before .before .before .before .reduce .ensures) (c .before .before .before .before .before .by-pivot .ensures) (c .before .before .before .place .ensures) (c .before .before .put64 .ensures)
+    solve-one-is real64 (p .sys) (now (p .a)) (timesIf real64 (p .times) (p .alpha .0)) _ _ _ _ _ _ _ _ _ _ _ _ (c .before .before .before .before .before .before .before .before .before .before .before .before .before .rows .ensures) (c .before .before .before .before .before .before .before .before .before .before .before .before .in-order .ensures .0) (c .before .before .before .before .before .before .before .before .before .before .before .least-solved .ensures .0) (c .before .before .before .before .before .before .before .before .before .elem .ensures) (c .before .before .before .before .before .before .before .before .times-if .ensures) (c .before .before .before .before .before .before .reduce .ensures) (c .before .before .before .before .before .by-pivot .ensures) (c .before .before .before .place .ensures) (c .before .before .put .ensures)
 
 pub solve-one-spec : {M : Type 1} → statement M
 solve-one-spec =
@@ -53,11 +53,11 @@ solve-one-spec =
     rows-requires
     in-order-requires
     least-solved-requires
-    elem64-requires
+    elem-requires
     times-if-requires
     reduce-requires
     by-pivot-requires
     place-requires
-    put64-requires
+    put-requires
     same-length
     returns)

@@ -4,10 +4,4 @@ use Rattle.slab.proofs.block.block_start.Statement.{statement}
 use Rattle.slab.proofs.block.block_start.Tie as tie
 
 pub block-start-spec : {M : Type 1} → statement M
-block-start-spec =
-    tie.close
-    (tie.spec
-    (λ c. omega arith)
-    (λ c. omega arith)
-    (λ c. (omega arith, omega arith, omega arith))
-    (λ c. (omega arith, omega arith, omega arith)))
+block-start-spec = tie.close (tie.spec (omega arith) (omega arith) (λ c. (omega arith, omega arith, omega arith)) (λ c. (omega arith, omega arith, omega arith)))

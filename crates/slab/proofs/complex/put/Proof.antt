@@ -1,0 +1,10 @@
+use native.Mathlib.Omega.{arith}
+use lib.ListN.{length-set}
+use borrow.Author.Needs.{needs}
+use Rattle.slab.proofs.complex.put.Statement.{statement}
+use Rattle.slab.proofs.complex.put.Tie as tie
+
+pub put-spec : {M : Type 1} → statement M
+put-spec = tie.close (tie.spec
+    (search needs) (search needs) (search needs) (search needs) (search needs) (search needs) (λ c. simp length-set (omega arith)) (search needs)
+    (search needs))

@@ -1,0 +1,11 @@
+-- Eight times the literal 0.0, which is ZERO.
+use mathlib.Core.Path.{ap}
+use lib.Ieee.{binary32}
+use Rattle.number.specs.Kind.{real32}
+use Rattle.number.proofs.Literals.{zero-literal}
+use Rattle.slab.proofs.EightLaws.{eight-of, eight-same}
+use Rattle.slab.proofs.real32.zeros.Statement.{statement}
+use Rattle.slab.proofs.real32.zeros.Tie as tie
+
+pub zeros-spec : {M : Type 1} → statement M
+zeros-spec = tie.close (tie.spec (λ c. eight-same real32 _ _ _ (eight-of binary32 _) (λ t l. zero-literal binary32)))
