@@ -7,8 +7,8 @@ ghost use Rattle.view.specs.Checks.{readCheck};
 ghost use Rattle.read_view.specs.Read.{readAnswer, readOutcome, foundOutcome, foundComplexOutcome};
 use call_check::check_read;
 use number::Complex;
-use slab::complex::get;
-use slab::real64::get;
+use slab::complex::get as get_complex;
+use slab::real64::get as get64;
 use view::Answer;
 use view::View;
 use view::cols;
@@ -68,7 +68,7 @@ fn find(s: &[f64], v: View, r: usize, c: usize) -> Found
 {
     let a = answer(v, s.len(), r, c);
     if passed(a) {
-        let x = get(s, place(v, r, c));
+        let x = get64(s, place(v, r, c));
         Found::Number(x.0)
     } else {
         Found::Refused(a)
@@ -80,7 +80,7 @@ fn find_complex(s: &[f64], v: View, r: usize, c: usize) -> FoundComplex
 {
     let a = answer(v, s.len() / 2, r, c);
     if passed(a) {
-        let x = get(s, place(v, r, c));
+        let x = get_complex(s, place(v, r, c));
         FoundComplex::Number(x)
     } else {
         FoundComplex::Refused(a)
@@ -113,7 +113,7 @@ impl<'a> ReadView<'a> {
         find(self.slab, self.view, r, c)
     }
 
-    pub fn get(self, r: usize, c: usize) -> FoundComplex
+    pub fn get_complex(self, r: usize, c: usize) -> FoundComplex
         ensures { λ e. ⌜ foundComplexOutcome e ≡ readOutcome complex (now (self .entry .slab)) (self .entry .view) r c ⌝ }
     {
         find_complex(self.slab, self.view, r, c)
