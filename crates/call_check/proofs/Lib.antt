@@ -7,3 +7,4 @@ mod Views
 pub mod Passes
 pub mod Ops
 mod Ordinary
+mod Words

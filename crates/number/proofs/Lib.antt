@@ -14,3 +14,4 @@ pub mod ComplexExact
 pub mod Instances
 pub mod ScalingLaws
 pub mod WorkedNumbers
+mod Words

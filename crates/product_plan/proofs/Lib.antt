@@ -5,3 +5,4 @@ pub mod Rows
 pub mod Products
 pub mod Ready
 pub mod Kernels
+mod Words

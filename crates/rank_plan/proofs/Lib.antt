@@ -6,3 +6,4 @@ pub mod Laws
 pub mod Eights
 pub mod Ready
 pub mod Kernels
+mod Words

@@ -6,3 +6,4 @@ mod Contracts
 mod Apart
 mod Through
 mod Sizes
+mod Words

@@ -1,3 +1,4 @@
 -- Lemmas that several proofs of the crate cite.
 mod Nan
 mod Complement
+mod Words

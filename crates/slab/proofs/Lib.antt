@@ -5,3 +5,4 @@ pub mod Columns
 pub mod EightLaws
 pub mod Shown
 pub mod RunLaws
+mod Words

@@ -1,2 +1,3 @@
 -- The lemma that the functions' proofs share.
 pub mod NotNan
+mod Words

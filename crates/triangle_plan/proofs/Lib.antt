@@ -11,3 +11,4 @@ pub mod Solves
 pub mod SolveKernels
 pub mod Multiplies
 pub mod ProductKernels
+mod Words

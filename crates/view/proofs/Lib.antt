@@ -7,3 +7,4 @@ pub mod TransposeLaws
 pub mod OverlapLaws
 pub mod VectorLaws
 pub mod JudgeLaws
+mod Words

@@ -2,3 +2,4 @@
 pub mod Strides
 pub mod Extent
 pub mod Multiples
+mod Words

@@ -1,40 +1,19 @@
 -- Each term goes into the four sums (Eights: sums-next).
-use Prim.Native.Nat.{_≤_, _+_, _-_}
-use native.Mathlib.Omega.{arith}
-use lib.Ieee.{binary64}
-use denote.Ref.{now}
-use Rattle.number.specs.Kind.{complex}
-use Rattle.number.proofs.Literals.{zero-literal}
-use Rattle.slab.specs.Eight.{Lanes}
-use Rattle.slab.proofs.EightLaws.{four-of}
-use Rattle.blas.specs.Matrix.{sum}
-use Rattle.product_plan.specs.Plan.{term}
-use Rattle.product_plan.proofs.Eights.{sums-start, sums-next, sums-end}
+use Rattle.product_complex.proofs.Words.{_≤_, _+_, _-_, arith, binary64, now, complex, zero-literal, Lanes, four-of, sum, term, sums-start, sums-next, sums-end}
 use Rattle.product_complex.proofs.four_sums.Statement.{statement}
 use Rattle.product_complex.proofs.four_sums.Tie as tie
 
 abbrev Inv-loop : tie.InvT-loop
 Inv-loop a b i j f n sums₀ p₀ sums p = (p ≤ n) × Lanes complex 4 sums (λ t. sum complex p (term complex f a b i (j + t)))
 
-abbrev μ-loop : tie.MeasureT-loop
-μ-loop a b i j f n sums₀ p₀ sums p = n - p
-
-loop-again : tie.Need-loop-again Inv-loop μ-loop
-loop-again c =
-    let x = c .before .before .before .before .before .before .before .args in
-    let l = c .before .before .before .loop in
-    (omega arith, sums-next complex (x .plan .factors) (now (x .a)) (now (x .b)) (x .i) (x .j) (l .p) (l .sums) _ _ (l .inv .1) (c .before .at .ensures) (c .add-four .ensures))
-
 pub four-sums-spec : {M : Type 1} → statement M
-four-sums-spec =
-    tie.close
-    (tie.spec
-    Inv-loop
-    μ-loop
-    (λ c. (omega arith, sums-start complex _ _ _ (four-of _) (rw (zero-literal binary64))))
+four-sums-spec = tie.close (tie.spec
+    Inv-loop (λ a b i j f n sums₀ p₀ sums p. n - p) (λ c. (omega arith, sums-start complex _ _ _ (four-of _) (rw (zero-literal binary64))))
     (λ c κs. let r = c .before .before .before .before .before .pre in r .0 .left _ _ (r .1) (omega arith))
     (λ c κs. let r = c .before .before .before .before .before .before .pre in r .0 .right _ _ (omega arith) (omega (arith, r .2)))
     (λ c. let r = c .before .before .before .before .before .before .before .pre in let h = r .0 .left _ (c .before .before .before .loop .p) (r .1) (omega arith) in omega (arith, h .col, h .fits .cols-le))
     (λ c. omega arith)
-    loop-again
+    (λ c. let x = c .before .before .before .before .before .before .before .args in
+    let l = c .before .before .before .loop in
+    (omega arith, sums-next complex (x .plan .factors) (now (x .a)) (now (x .b)) (x .i) (x .j) (l .p) (l .sums) _ _ (l .inv .1) (c .before .at .ensures) (c .add-four .ensures)))
     (λ c. sums-end complex _ _ _ _ (c .before .loop .inv .0) (omega arith) (c .before .loop .inv .1)))

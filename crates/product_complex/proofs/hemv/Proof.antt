@@ -1,49 +1,13 @@
-use mathlib.Core.Path.{_∙_, ap, refl}
-use borrow.Author.Needs.{needs}
-use Rattle.number.specs.Kind.{complex}
-use Rattle.number.specs.Scaling.{scaleByComplex}
-use Rattle.number.proofs.ScalingLaws.{scale-complex}
-use Rattle.product_plan.proofs.Kernels.{hemv-refused, hemv-vectors, hemv-runs, hemv-done}
+use Rattle.product_complex.proofs.Words.{_∙_, ap, refl, needs, complex, scaleByComplex, scale-complex, hemv-refused, hemv-vectors, hemv-runs, hemv-done}
 use Rattle.product_complex.proofs.hemv.Statement.{statement}
 use Rattle.product_complex.proofs.hemv.Tie as tie
 
-quick-hemv-requires : tie.Need-quick-hemv-requires
-quick-hemv-requires c κs = search needs
-
-check-hemv-requires : tie.Need-check-hemv-requires
-check-hemv-requires c κs = c .quick-hemv .ensures
-
-passed-requires : tie.Need-passed-requires
-passed-requires c κs = tt
-
-hemv-plan-requires : tie.Need-hemv-plan-requires
-hemv-plan-requires c κs = hemv-vectors (c .before .before .before .before .before .before .before .args .uplo) _ _ _ _ _ _ _ _ (c .before .before .check-hemv .ensures) (c .before .passed .ensures) (c .if1 .taken)
-
-judge-requires : tie.Need-judge-requires
-judge-requires c κs = tt
-
-run-left-column-requires : tie.Need-run-left-column-requires
-run-left-column-requires c κs = hemv-runs (c .before .before .before .before .before .before .before .before .before .before .args .uplo) _ _ _ _ _ _ _ _ (c .before .before .before .before .before .check-hemv .ensures) (c .before .before .before .before .passed .ensures) (c .before .before .before .if1 .taken) _ (c .before .before .hemv-plan .ensures)
-
-same-length : tie.Need-same-length
-same-length c = search needs
-
-returns : tie.Need-returns
-returns c = hemv-done complex _ _ _ _ _ _ _ _ (c .before .before .before .before .before .before .before .before .check-hemv .ensures) (c .before .before .before .before .before .before .before .passed .ensures) (c .before .before .before .before .before .before .if1 .taken) _ _ _ _ (c .before .before .before .before .before .hemv-plan .ensures) (ap scaleByComplex (c .before .before .before .before .judge .ensures) ∙ scale-complex _) refl (c .before .before .run-left-column .ensures)
-
-returns-2 : tie.Need-returns-2
-returns-2 c = hemv-refused complex _ _ _ _ _ _ _ _ (c .before .before .check-hemv .ensures) (c .before .passed .ensures) (c .if1 .left)
-
 pub hemv-spec : {M : Type 1} → statement M
-hemv-spec =
-    tie.close
-    (tie.spec
-    quick-hemv-requires
-    check-hemv-requires
-    passed-requires
-    hemv-plan-requires
-    judge-requires
-    run-left-column-requires
-    same-length
-    returns
-    returns-2)
+hemv-spec = tie.close (tie.spec
+    (λ c κs. search needs) (λ c κs. c .quick-hemv .ensures) (λ c κs. tt)
+    (λ c κs. hemv-vectors (c .before .before .before .before .before .before .before .args .uplo) _ _ _ _ _ _ _ _ (c .before .before .check-hemv .ensures) (c .before .passed .ensures) (c .if1 .taken))
+    (λ c κs. tt)
+    (λ c κs. hemv-runs (c .before .before .before .before .before .before .before .before .before .before .args .uplo) _ _ _ _ _ _ _ _ (c .before .before .before .before .before .check-hemv .ensures) (c .before .before .before .before .passed .ensures) (c .before .before .before .if1 .taken) _ (c .before .before .hemv-plan .ensures))
+    (λ c. search needs)
+    (λ c. hemv-done complex _ _ _ _ _ _ _ _ (c .before .before .before .before .before .before .before .before .check-hemv .ensures) (c .before .before .before .before .before .before .before .passed .ensures) (c .before .before .before .before .before .before .if1 .taken) _ _ _ _ (c .before .before .before .before .before .hemv-plan .ensures) (ap scaleByComplex (c .before .before .before .before .judge .ensures) ∙ scale-complex _) refl (c .before .before .run-left-column .ensures))
+    (λ c. hemv-refused complex _ _ _ _ _ _ _ _ (c .before .before .check-hemv .ensures) (c .before .passed .ensures) (c .if1 .left)))

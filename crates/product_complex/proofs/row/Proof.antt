@@ -1,58 +1,16 @@
-use Prim.Native.Nat.{ℕ, _≤_, _-_, _/_}
-use mathlib.Core.Path.{_≡_, refl, ap, _∙_}
-use native.Mathlib.Omega.{arith}
-use lib.ListN.{length}
-use Rattle.number.specs.Kind.{complex}
-use Rattle.number.specs.Scaling.{scaleByComplex, times}
-use Rattle.slab.specs.Update.{everywhere, updateRow}
-use Rattle.slab.proofs.LoopLaws.{row-last, put-next}
-use Rattle.product_plan.specs.Plan.{planChange}
-use Rattle.product_plan.proofs.Ready.{ready-kept}
+use Rattle.product_complex.proofs.Words.{ℕ, _≤_, _-_, _/_, _≡_, refl, ap, _∙_, arith, length, complex, scaleByComplex, times, everywhere, updateRow, row-last, put-next, planChange, ready-kept}
 use Rattle.product_complex.proofs.row.Statement.{statement}
 use Rattle.product_complex.proofs.row.Tie as tie
 
 abbrev Inv-loop : tie.InvT-loop
 Inv-loop plan a b alpha beta c₀ i n j₀ c j = (j ≤ n) × (length c ≡ length c₀) × (c ≡ updateRow complex (plan .target) everywhere (planChange complex plan (scaleByComplex beta) (times alpha) a b) i j c₀)
 
-abbrev μ-loop : tie.MeasureT-loop
-μ-loop plan a b alpha beta c₀ i n j₀ c j = n - j
-
-cols-requires : tie.Need-cols-requires Inv-loop μ-loop
-cols-requires c κs = tt
-
-loop-holds : tie.Need-loop-holds Inv-loop μ-loop
-unfolding updateRow
-loop-holds c = (omega arith, refl, refl)
-
-entry-requires : tie.Need-entry-requires Inv-loop μ-loop
-entry-requires c κs = (ready-kept _ _ _ _ _ (ap (λ (k : ℕ). k / 2) (c .before .before .loop .inv .1)) (c .before .before .before .before .before .before .before .pre .0), c .before .before .before .before .before .before .before .pre .1, omega (arith, c .before .before .before .cols .ensures))
-
-add-j : tie.Need-add-j Inv-loop μ-loop
-add-j c = omega arith
-
-loop-less : tie.Need-loop-less Inv-loop μ-loop
-loop-less c = omega arith
-
-loop-again : tie.Need-loop-again Inv-loop μ-loop
-loop-again c = (omega arith, c .before .before .entry .kept .1 .1 .1 .1 .1 .0 ∙ c .before .before .before .before .before .loop .inv .1, put-next complex _ _ _ _ _ _ _ _ refl (c .before .before .before .before .before .loop .inv .2) (c .before .before .entry .ensures))
-
-same-length : tie.Need-same-length Inv-loop μ-loop
-same-length c = c .before .loop .inv .1
-
-returns : tie.Need-returns Inv-loop μ-loop
-returns c = row-last _ _ _ _ _ _ _ _ _ (c .before .before .cols .ensures) (c .before .loop .inv .0) (omega arith) (c .before .loop .inv .2)
-
 pub row-spec : {M : Type 1} → statement M
-row-spec =
-    tie.close
-    (tie.spec
-    Inv-loop
-    μ-loop
-    cols-requires
-    loop-holds
-    entry-requires
-    add-j
-    loop-less
-    loop-again
-    same-length
-    returns)
+unfolding updateRow
+row-spec = tie.close (tie.spec
+    Inv-loop (λ plan a b alpha beta c₀ i n j₀ c j. n - j) (λ c κs. tt) (λ c. (omega arith, refl, refl))
+    (λ c κs. (ready-kept _ _ _ _ _ (ap (λ (k : ℕ). k / 2) (c .before .before .loop .inv .1)) (c .before .before .before .before .before .before .before .pre .0), c .before .before .before .before .before .before .before .pre .1, omega (arith, c .before .before .before .cols .ensures)))
+    (λ c. omega arith) (λ c. omega arith)
+    (λ c. (omega arith, c .before .before .entry .kept .1 .1 .1 .1 .1 .0 ∙ c .before .before .before .before .before .loop .inv .1, put-next complex _ _ _ _ _ _ _ _ refl (c .before .before .before .before .before .loop .inv .2) (c .before .before .entry .ensures)))
+    (λ c. c .before .loop .inv .1)
+    (λ c. row-last _ _ _ _ _ _ _ _ _ (c .before .before .cols .ensures) (c .before .loop .inv .0) (omega arith) (c .before .loop .inv .2)))

@@ -1,38 +1,23 @@
 -- Block after block is the row so far (Eights: block-settled).
-use Prim.Native.Nat.{ℕ, _≤_, _+_, _-_, _/_}
-use mathlib.Core.Path.{_≡_, refl, ap, _∙_}
-use native.Mathlib.Omega.{arith}
-use lib.ListN.{length}
-use denote.Ref.{now}
-use Rattle.number.specs.Kind.{complex}
-use Rattle.number.specs.Scaling.{scaleByComplex, times}
-use Rattle.slab.specs.Update.{everywhere, updateRow}
-use Rattle.slab.proofs.LoopLaws.{row-last, span-after}
-use Rattle.product_plan.specs.Plan.{product, planChange}
-use Rattle.product_plan.proofs.Ready.{ready-kept}
-use Rattle.product_plan.proofs.Eights.{block-settled}
+use Rattle.product_complex.proofs.Words.{ℕ, _≤_, _+_, _-_, _/_, _≡_, refl, ap, _∙_, arith, length, now, complex, scaleByComplex, times, everywhere, updateRow, row-last, span-after, product, planChange, ready-kept, block-settled}
 use Rattle.product_complex.proofs.wide_row.Statement.{statement}
 use Rattle.product_complex.proofs.wide_row.Tie as tie
 
 abbrev Inv-loop : tie.InvT-loop
 Inv-loop plan a b alpha beta c₀ i n j₀ c j = (j ≤ n) × (length c ≡ length c₀) × (c ≡ updateRow complex (plan .target) everywhere (planChange complex plan (scaleByComplex beta) (times alpha) a b) i j c₀)
 
-abbrev μ-loop : tie.MeasureT-loop
-μ-loop plan a b alpha beta c₀ i n j₀ c j = n - j
-
-loop-holds : tie.Need-loop-holds Inv-loop μ-loop
+pub wide-row-spec : {M : Type 1} → statement M
 unfolding updateRow
-loop-holds c = (omega arith, refl, refl)
-
-settle-four-requires : tie.Need-settle-four-requires Inv-loop μ-loop
-settle-four-requires c κs =
-    let r = c .before .before .before .before .before .before .before .before .before .pre in
+wide-row-spec = tie.close (tie.spec
+    Inv-loop (λ plan a b alpha beta c₀ i n j₀ c j. n - j) (λ c κs. tt) (λ c. (omega arith, refl, refl))
+    (λ c κs. let r = c .before .before .before .before .before .before .pre in (omega arith, omega (arith, r .2, c .before .before .cols .ensures), omega (arith, r .0 .target .cols-le, c .before .before .cols .ensures), omega arith))
+    (λ c κs. let r = c .before .before .before .before .before .before .before .pre in (r .0 .reads, r .1, omega (arith, c .block-start .ensures .2, c .before .before .before .cols .ensures)))
+    (λ c κs. let r = c .before .before .before .before .before .before .before .before .before .pre in
     let s = c .before .before .block-start .ensures in
-    (ready-kept _ _ _ _ _ (ap (λ (k : ℕ). k / 2) (c .before .before .before .before .loop .inv .1)) (r .0) .target, r .1, record { begins = s .0; ordered = omega (arith, s .1); ends = omega arith; within = omega (arith, s .2, c .before .before .before .before .before .cols .ensures) })
-
-loop-again : tie.Need-loop-again Inv-loop μ-loop
-loop-again c =
-    let p = c .before .before .before .before .before .before .before .before .before .before .before .before in
+    (ready-kept _ _ _ _ _ (ap (λ (k : ℕ). k / 2) (c .before .before .before .before .loop .inv .1)) (r .0) .target, r .1, record { begins = s .0; ordered = omega (arith, s .1); ends = omega arith; within = omega (arith, s .2, c .before .before .before .before .before .cols .ensures) }))
+    (λ c. omega (arith, c .before .before .before .before .before .block-start .ensures .2))
+    (λ c. omega (arith, c .before .before .before .before .before .block-start .ensures .1, c .before .before .before .before .before .block-start .ensures .2))
+    (λ c. let p = c .before .before .before .before .before .before .before .before .before .before .before .before in
     let l = c .before .before .before .before .before .before .before .loop in
     let s = c .before .before .before .before .before .block-start in (
       omega (arith, s .ensures .2),
@@ -42,21 +27,6 @@ loop-again c =
           (record { begins = s .ensures .0; ordered = omega (arith, s .ensures .1); ends = omega arith; within = omega (arith, s .ensures .2, c .before .before .before .before .before .before .before .before .cols .ensures) })
           (c .before .before .before .before .four-sums .ensures)
           (c .before .before .settle-four .ensures)),
-    )
-
-pub wide-row-spec : {M : Type 1} → statement M
-wide-row-spec =
-    tie.close
-    (tie.spec
-    Inv-loop
-    μ-loop
-    (λ c κs. tt)
-    loop-holds
-    (λ c κs. let r = c .before .before .before .before .before .before .pre in (omega arith, omega (arith, r .2, c .before .before .cols .ensures), omega (arith, r .0 .target .cols-le, c .before .before .cols .ensures), omega arith))
-    (λ c κs. let r = c .before .before .before .before .before .before .before .pre in (r .0 .reads, r .1, omega (arith, c .block-start .ensures .2, c .before .before .before .cols .ensures)))
-    settle-four-requires
-    (λ c. omega (arith, c .before .before .before .before .before .block-start .ensures .2))
-    (λ c. omega (arith, c .before .before .before .before .before .block-start .ensures .1, c .before .before .before .before .before .block-start .ensures .2))
-    loop-again
+    ))
     (λ c. c .before .loop .inv .1)
     (λ c. row-last _ _ _ _ _ _ _ _ _ (c .before .before .cols .ensures) (c .before .loop .inv .0) (omega arith) (c .before .loop .inv .2)))

@@ -1,45 +1,19 @@
 -- Each term goes into the eight sums (Eights).
-use Prim.Native.Nat.{_≤_, _+_, _-_}
-use mathlib.Core.Path.{refl}
-use native.Mathlib.Omega.{arith}
-use lib.Ieee.{binary32}
-use denote.Ref.{now}
-use borrow.Kind.Array.{good-length, eFloat}
-use Rattle.number.specs.Kind.{real32}
-use Rattle.slab.specs.Eight.{Eight}
-use Rattle.slab.specs.Run.{plusTerms}
-use Rattle.product_plan.specs.Plan.{term}
-use Rattle.product_plan.proofs.Eights.{eight-start, eight-next, eight-end}
+use Rattle.product_real32.proofs.Words.{_≤_, _+_, _-_, refl, arith, binary32, now, good-length, eFloat, real32, Eight, plusTerms, term, eight-start, eight-next, eight-end}
 use Rattle.product_real32.proofs.add_apart.Statement.{statement}
 use Rattle.product_real32.proofs.add_apart.Tie as tie
 
 abbrev Inv-loop : tie.InvT-loop
 Inv-loop f a b i j from end totals₀ p₀ totals p = (from ≤ p) × (p ≤ end) × Eight real32 totals (λ t. plusTerms real32 (real32 .at totals₀ t) (term real32 f a b i (j + t)) from (p - from))
 
-abbrev μ-loop : tie.MeasureT-loop
-μ-loop f a b i j from end totals₀ p₀ totals p = end - p
-
-loop-holds : tie.Need-loop-holds Inv-loop μ-loop
-loop-holds c =
-    let s = c .before .before in
-    (omega arith, s .pre .ordered, eight-start real32 _ _ _ _ (record { count = good-length (eFloat binary32) 8 (s .args .sums) _ (s .good .1 .1 .1 .1 .1 .1 .1 .0); sum = λ t l. refl }))
-
-loop-again : tie.Need-loop-again Inv-loop μ-loop
-loop-again c =
-    let p = c .before .before .before .before .before .before .args in
-    let l = c .before .before .before .loop in
-    (omega arith, omega arith, eight-next binary32 (p .f) (now (p .a)) (now (p .b)) (p .i) (p .j) _ _ _ (l .totals) _ _ (l .inv .0) (l .inv .2) (c .before .elem .ensures) (c .plus-eight .ensures))
-
 pub add-apart-spec : {M : Type 1} → statement M
-add-apart-spec =
-    tie.close
-    (tie.spec
-    Inv-loop
-    μ-loop
-    loop-holds
-    (λ c κs. c .before .before .before .before .pre .left _ (omega arith))
-    (λ c κs. c .before .before .before .before .before .pre .right _ (omega arith))
-    (λ c. omega arith)
-    (λ c. omega arith)
-    loop-again
+add-apart-spec = tie.close (tie.spec
+    Inv-loop (λ f a b i j from end totals₀ p₀ totals p. end - p)
+    (λ c. let s = c .before .before in
+    (omega arith, s .pre .ordered, eight-start real32 _ _ _ _ (record { count = good-length (eFloat binary32) 8 (s .args .sums) _ (s .good .1 .1 .1 .1 .1 .1 .1 .0); sum = λ t l. refl })))
+    (λ c κs. c .before .before .before .before .pre .left _ (omega arith)) (λ c κs. c .before .before .before .before .before .pre .right _ (omega arith))
+    (λ c. omega arith) (λ c. omega arith)
+    (λ c. let p = c .before .before .before .before .before .before .args in
+    let l = c .before .before .before .loop in
+    (omega arith, omega arith, eight-next binary32 (p .f) (now (p .a)) (now (p .b)) (p .i) (p .j) _ _ _ (l .totals) _ _ (l .inv .0) (l .inv .2) (c .before .elem .ensures) (c .plus-eight .ensures)))
     (λ c. eight-end real32 _ _ _ _ _ _ (c .before .loop .inv .1) (omega arith) (c .before .loop .inv .2)))

@@ -1,24 +1,13 @@
 -- Eight sums, and part of the eight elements settled with them (Eights: block-settled).
-use native.Mathlib.Omega.{arith}
-use lib.Ieee.{binary32}
-use denote.Ref.{now}
-use borrow.Author.Needs.{needs}
-use Rattle.number.specs.Kind.{real32}
-use Rattle.number.specs.Scaling.{scaleBy32}
-use Rattle.number.proofs.Literals.{zero-literal}
-use Rattle.slab.proofs.EightLaws.{eight-of}
-use Rattle.product_plan.specs.Plan.{product}
-use Rattle.product_plan.proofs.Ready.{spans}
-use Rattle.product_plan.proofs.Eights.{sums-whole, block-settled}
+use Rattle.product_real32.proofs.Words.{arith, binary32, now, needs, real32, scaleBy32, zero-literal, eight-of, product, spans, sums-whole, block-settled}
 use Rattle.product_real32.proofs.block.Statement.{statement}
 use Rattle.product_real32.proofs.block.Tie as tie
 
-returns : tie.Need-returns
-returns c =
-    let p = c .before .before .before .before .before .before .before .before in
+pub block-spec : {M : Type 1} → statement M
+block-spec = tie.close (tie.spec
+    (λ c κs. let r = c .before .before .before .pre in spans _ _ _ _ _ _ (r .0 .reads) _ _ _ _ (r .1) (omega (arith, r .2 .within)) (omega arith) (omega arith))
+    (λ c κs. let r = c .before .before .before .before .before .pre in (r .0 .target, r .1, r .2)) (λ c. search needs)
+    (λ c. let p = c .before .before .before .before .before .before .before .before in
     block-settled real32 (p .args .plan .target) (scaleBy32 (p .args .beta)) (real32 .mul (p .args .alpha .0)) (product real32 (p .args .plan) (now (p .args .a)) (now (p .args .b))) _ _ (p .args .i) (p .args .from) (p .args .first) (p .args .end) _ (now (p .args .c)) _ (p .pre .2)
     (sums-whole real32 _ _ _ (eight-of binary32 _) (zero-literal binary32) _ _ (c .before .before .before .before .add-eight .ensures))
-    (c .before .before .settle-block .ensures)
-
-pub block-spec : {M : Type 1} → statement M
-block-spec = tie.close (tie.spec (λ c κs. let r = c .before .before .before .pre in spans _ _ _ _ _ _ (r .0 .reads) _ _ _ _ (r .1) (omega (arith, r .2 .within)) (omega arith) (omega arith)) (λ c κs. let r = c .before .before .before .before .before .pre in (r .0 .target, r .1, r .2)) (λ c. search needs) returns)
+    (c .before .before .settle-block .ensures)))

@@ -1,59 +1,16 @@
-use Prim.Native.Nat.{_≤_, _-_}
-use mathlib.Core.Path.{_≡_, refl, _∙_}
-use native.Mathlib.Omega.{arith}
-use lib.ListN.{length}
-use Rattle.number.specs.Kind.{real32}
-use Rattle.number.specs.Scaling.{scaleBy32}
-use Rattle.view.specs.Triangle.{inTriangle}
-use Rattle.slab.specs.Update.{updateRows}
-use Rattle.slab.proofs.LoopLaws.{rows-next, rows-last}
-use Rattle.product_plan.specs.Plan.{planChange}
-use Rattle.product_plan.proofs.Ready.{ready-kept}
+use Rattle.product_real32.proofs.Words.{_≤_, _-_, _≡_, refl, _∙_, arith, length, real32, scaleBy32, inTriangle, updateRows, rows-next, rows-last, planChange, ready-kept}
 use Rattle.product_real32.proofs.run_triangle_wide.Statement.{statement}
 use Rattle.product_real32.proofs.run_triangle_wide.Tie as tie
 
 abbrev Inv-loop : tie.InvT-loop
 Inv-loop uplo plan a b alpha beta c₀ m i₀ c i = (i ≤ m) × (length c ≡ length c₀) × (c ≡ updateRows real32 (plan .target) (inTriangle uplo) (planChange real32 plan (scaleBy32 beta) (real32 .mul (alpha .0)) a b) i c₀)
 
-abbrev μ-loop : tie.MeasureT-loop
-μ-loop uplo plan a b alpha beta c₀ m i₀ c i = m - i
-
-rows-requires : tie.Need-rows-requires Inv-loop μ-loop
-rows-requires c κs = tt
-
-loop-holds : tie.Need-loop-holds Inv-loop μ-loop
-unfolding updateRows
-loop-holds c = (omega arith, refl, refl)
-
-triangle-wide-row-requires : tie.Need-triangle-wide-row-requires Inv-loop μ-loop
-triangle-wide-row-requires c κs = (ready-kept _ _ _ _ _ (c .before .before .loop .inv .1) (c .before .before .before .before .before .before .before .pre .0), omega (arith, c .before .before .before .rows .ensures), omega (arith, c .before .before .before .rows .ensures, c .before .before .before .before .before .before .before .pre .1), c .before .before .before .before .before .before .before .pre .2)
-
-add-i : tie.Need-add-i Inv-loop μ-loop
-add-i c = omega arith
-
-loop-less : tie.Need-loop-less Inv-loop μ-loop
-loop-less c = omega arith
-
-loop-again : tie.Need-loop-again Inv-loop μ-loop
-loop-again c = (omega arith, c .before .before .triangle-wide-row .kept .1 .1 .1 .1 .1 .1 .0 ∙ c .before .before .before .before .before .loop .inv .1, rows-next _ _ _ _ _ _ _ _ (c .before .before .before .before .before .loop .inv .2) (c .before .before .triangle-wide-row .ensures))
-
-same-length : tie.Need-same-length Inv-loop μ-loop
-same-length c = c .before .loop .inv .1
-
-returns : tie.Need-returns Inv-loop μ-loop
-returns c = rows-last _ _ _ _ _ _ _ _ (c .before .before .rows .ensures) (c .before .loop .inv .0) (omega arith) (c .before .loop .inv .2)
-
 pub run-triangle-wide-spec : {M : Type 1} → statement M
-run-triangle-wide-spec =
-    tie.close
-    (tie.spec
-    Inv-loop
-    μ-loop
-    rows-requires
-    loop-holds
-    triangle-wide-row-requires
-    add-i
-    loop-less
-    loop-again
-    same-length
-    returns)
+unfolding updateRows
+run-triangle-wide-spec = tie.close (tie.spec
+    Inv-loop (λ uplo plan a b alpha beta c₀ m i₀ c i. m - i) (λ c κs. tt) (λ c. (omega arith, refl, refl))
+    (λ c κs. (ready-kept _ _ _ _ _ (c .before .before .loop .inv .1) (c .before .before .before .before .before .before .before .pre .0), omega (arith, c .before .before .before .rows .ensures), omega (arith, c .before .before .before .rows .ensures, c .before .before .before .before .before .before .before .pre .1), c .before .before .before .before .before .before .before .pre .2))
+    (λ c. omega arith) (λ c. omega arith)
+    (λ c. (omega arith, c .before .before .triangle-wide-row .kept .1 .1 .1 .1 .1 .1 .0 ∙ c .before .before .before .before .before .loop .inv .1, rows-next _ _ _ _ _ _ _ _ (c .before .before .before .before .before .loop .inv .2) (c .before .before .triangle-wide-row .ensures)))
+    (λ c. c .before .loop .inv .1)
+    (λ c. rows-last _ _ _ _ _ _ _ _ (c .before .before .rows .ensures) (c .before .loop .inv .0) (omega arith) (c .before .loop .inv .2)))

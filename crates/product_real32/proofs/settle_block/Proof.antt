@@ -1,49 +1,18 @@
 -- Column after column of the block is settled (slab: span).
-use Prim.Native.Nat.{_≤_, _-_}
-use mathlib.Core.Path.{_≡_, refl, _∙_}
-use native.Mathlib.Omega.{arith}
-use lib.ListN.{length}
-use Rattle.number.specs.Kind.{real32}
-use Rattle.number.specs.Scaling.{scaleBy32}
-use Rattle.slab.specs.Update.{span}
-use Rattle.slab.proofs.LoopLaws.{span-start, span-next, span-end}
-use Rattle.blas.specs.Matrix.{accumulate}
-use Rattle.product_plan.proofs.Ready.{accepted-kept}
+use Rattle.product_real32.proofs.Words.{_≤_, _-_, _≡_, refl, _∙_, arith, length, real32, scaleBy32, span, span-start, span-next, span-end, accumulate, accepted-kept}
 use Rattle.product_real32.proofs.settle_block.Statement.{statement}
 use Rattle.product_real32.proofs.settle_block.Tie as tie
 
 abbrev Inv-loop : tie.InvT-loop
 Inv-loop v alpha beta c₀ i from first end sums j₀ c j = (first ≤ j) × (j ≤ end) × (length c ≡ length c₀) × (c ≡ span real32 v (accumulate real32 (scaleBy32 beta) (real32 .mul (alpha .0)) (λ i j. real32 .at sums (j - from))) i first j c₀)
 
-abbrev μ-loop : tie.MeasureT-loop
-μ-loop v alpha beta c₀ i from first end sums j₀ c j = end - j
-
-loop-holds : tie.Need-loop-holds Inv-loop μ-loop
-loop-holds c = (omega arith, c .before .pre .2 .ordered, refl, span-start real32 _ _ _ _ _)
-
-settle-requires : tie.Need-settle-requires Inv-loop μ-loop
-settle-requires c κs =
-    let r = c .before .before .before .before .pre in
-    record { fits = accepted-kept _ _ _ (c .before .before .loop .inv .2) (r .0); row = r .1; col = omega (arith, r .2 .ends, r .2 .within) }
-
-loop-again : tie.Need-loop-again Inv-loop μ-loop
-loop-again c =
-    let l = c .before .before .before .before .before .loop in
-    (omega arith, omega arith, c .before .before .settle .kept .1 .1 .1 .0 ∙ l .inv .2, span-next real32 _ _ _ _ _ _ _ _ (l .inv .0) (l .inv .3) (c .before .before .settle .ensures))
-
 pub settle-block-spec : {M : Type 1} → statement M
-settle-block-spec =
-    tie.close
-    (tie.spec
-    Inv-loop
-    μ-loop
-    loop-holds
-    (λ c. omega (arith, c .before .before .before .before .pre .2 .begins))
-    (λ c. omega (arith, c .before .before .before .before .pre .2 .ends))
+settle-block-spec = tie.close (tie.spec
+    Inv-loop (λ v alpha beta c₀ i from first end sums j₀ c j. end - j) (λ c. (omega arith, c .before .pre .2 .ordered, refl, span-start real32 _ _ _ _ _))
+    (λ c. omega (arith, c .before .before .before .before .pre .2 .begins)) (λ c. omega (arith, c .before .before .before .before .pre .2 .ends))
     (λ c. omega (arith, c .before .before .before .before .pre .2 .begins, c .before .before .before .before .pre .2 .ends))
-    settle-requires
-    (λ c. omega arith)
-    (λ c. omega arith)
-    loop-again
-    (λ c. c .before .loop .inv .2)
-    (λ c. span-end real32 _ _ _ _ _ _ _ _ (c .before .loop .inv .1) (omega arith) (c .before .loop .inv .3)))
+    (λ c κs. let r = c .before .before .before .before .pre in record { fits = accepted-kept _ _ _ (c .before .before .loop .inv .2) (r .0); row = r .1; col = omega (arith, r .2 .ends, r .2 .within) })
+    (λ c. omega arith) (λ c. omega arith)
+    (λ c. let l = c .before .before .before .before .before .loop in
+    (omega arith, omega arith, c .before .before .settle .kept .1 .1 .1 .0 ∙ l .inv .2, span-next real32 _ _ _ _ _ _ _ _ (l .inv .0) (l .inv .3) (c .before .before .settle .ensures)))
+    (λ c. c .before .loop .inv .2) (λ c. span-end real32 _ _ _ _ _ _ _ _ (c .before .loop .inv .1) (omega arith) (c .before .loop .inv .3)))

@@ -1,18 +1,10 @@
 -- Where all turn at once nothing is added (Eights: turn-at-once).
-use native.Mathlib.Omega.{arith}
-use lib.Ieee.{binary64}
-use denote.Ref.{now}
-use borrow.Author.Needs.{needs}
-use borrow.Kind.Array.{good-length, eFloat}
-use Rattle.number.specs.Kind.{real64}
-use Rattle.product_plan.proofs.Eights.{turn-at-once}
+use Rattle.product_real64.proofs.Words.{arith, binary64, now, needs, good-length, eFloat, real64, turn-at-once}
 use Rattle.product_real64.proofs.bend.Statement.{statement}
 use Rattle.product_real64.proofs.bend.Tie as tie
 
-returns-2 : tie.Need-returns-2
-returns-2 c =
-    let p = c .before .before .before in
-    turn-at-once real64 (p .args .plan) (now (p .args .a)) (now (p .args .b)) _ _ (p .args .i) (p .args .j) (p .args .from) (p .args .end) (p .args .sums) (p .pre) (omega arith) (good-length (eFloat binary64) 8 (p .args .sums) _ (p .good .1 .1 .1 .1 .1 .1 .1 .0))
-
 pub bend-spec : {M : Type 1} → statement M
-bend-spec = tie.close (tie.spec (λ c κs. search needs) (λ c. search needs) returns-2)
+bend-spec = tie.close (tie.spec
+    (λ c κs. search needs) (λ c. search needs)
+    (λ c. let p = c .before .before .before in
+    turn-at-once real64 (p .args .plan) (now (p .args .a)) (now (p .args .b)) _ _ (p .args .i) (p .args .j) (p .args .from) (p .args .end) (p .args .sums) (p .pre) (omega arith) (good-length (eFloat binary64) 8 (p .args .sums) _ (p .good .1 .1 .1 .1 .1 .1 .1 .0))))

@@ -1,27 +1,10 @@
-use native.Mathlib.Omega.{arith}
-use lib.Ieee.{binary64}
-use denote.Ref.{now}
-use borrow.Author.Needs.{needs}
-use Rattle.number.proofs.Literals.{zero-literal}
-use Rattle.number.specs.Scaling.{scaleBy64}
-use Rattle.number.specs.Kind.{real64}
-use Rattle.product_plan.proofs.Sums.{sum-whole}
-use Rattle.product_plan.proofs.Rows.{entry-put}
-use Rattle.product_plan.proofs.Ready.{spans}
+use Rattle.product_real64.proofs.Words.{arith, binary64, now, needs, zero-literal, scaleBy64, real64, sum-whole, entry-put, spans}
 use Rattle.product_real64.proofs.entry.Statement.{statement}
 use Rattle.product_real64.proofs.entry.Tie as tie
 
-add-run-requires : tie.Need-add-run-requires
-add-run-requires c κs = spans _ _ _ _ _ _ (c .before .before .before .pre .0 .reads) _ _ _ _ (c .before .before .before .pre .1) (c .before .before .before .pre .2) (omega arith) (omega arith)
-
-settle-requires : tie.Need-settle-requires
-settle-requires c κs = record { fits = c .before .before .before .before .before .pre .0 .target; row = c .before .before .before .before .before .pre .1; col = c .before .before .before .before .before .pre .2 }
-
-same-length : tie.Need-same-length
-same-length c = search needs
-
-returns : tie.Need-returns
-returns c = let p = c .before .before .before .before .before .before .before .before .args in entry-put real64 (p .plan .target) (p .i) (p .j) (scaleBy64 (p .beta)) (real64 .mul (p .alpha .0)) _ _ (now (p .c)) _ (sum-whole real64 _ _ _ _ (zero-literal binary64) (c .before .before .before .before .add-run .ensures)) (c .before .before .settle .ensures)
-
 pub entry-spec : {M : Type 1} → statement M
-entry-spec = tie.close (tie.spec add-run-requires settle-requires same-length returns)
+entry-spec = tie.close (tie.spec
+    (λ c κs. spans _ _ _ _ _ _ (c .before .before .before .pre .0 .reads) _ _ _ _ (c .before .before .before .pre .1) (c .before .before .before .pre .2) (omega arith) (omega arith))
+    (λ c κs. record { fits = c .before .before .before .before .before .pre .0 .target; row = c .before .before .before .before .before .pre .1; col = c .before .before .before .before .before .pre .2 })
+    (λ c. search needs)
+    (λ c. let p = c .before .before .before .before .before .before .before .before .args in entry-put real64 (p .plan .target) (p .i) (p .j) (scaleBy64 (p .beta)) (real64 .mul (p .alpha .0)) _ _ (now (p .c)) _ (sum-whole real64 _ _ _ _ (zero-literal binary64) (c .before .before .before .before .add-run .ensures)) (c .before .before .settle .ensures)))

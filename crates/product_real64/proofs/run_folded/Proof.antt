@@ -1,58 +1,16 @@
-use Prim.Native.Nat.{_≤_, _-_}
-use mathlib.Core.Path.{_≡_, refl, _∙_}
-use native.Mathlib.Omega.{arith}
-use lib.ListN.{length}
-use Rattle.number.specs.Kind.{real64}
-use Rattle.number.specs.Scaling.{scaleBy64}
-use Rattle.slab.specs.Update.{everywhere, updateRows}
-use Rattle.slab.proofs.LoopLaws.{rows-next, rows-last}
-use Rattle.product_plan.specs.Plan.{foldedChange}
-use Rattle.product_plan.proofs.Ready.{folded-kept}
+use Rattle.product_real64.proofs.Words.{_≤_, _-_, _≡_, refl, _∙_, arith, length, real64, scaleBy64, everywhere, updateRows, rows-next, rows-last, foldedChange, folded-kept}
 use Rattle.product_real64.proofs.run_folded.Statement.{statement}
 use Rattle.product_real64.proofs.run_folded.Tie as tie
 
 abbrev Inv-loop : tie.InvT-loop
 Inv-loop plan a b alpha beta c₀ m i₀ c i = (i ≤ m) × (length c ≡ length c₀) × (c ≡ updateRows real64 (plan .target) everywhere (foldedChange real64 plan (scaleBy64 beta) (real64 .mul (alpha .0)) a b) i c₀)
 
-abbrev μ-loop : tie.MeasureT-loop
-μ-loop plan a b alpha beta c₀ m i₀ c i = m - i
-
-rows-requires : tie.Need-rows-requires Inv-loop μ-loop
-rows-requires c κs = tt
-
-loop-holds : tie.Need-loop-holds Inv-loop μ-loop
-unfolding updateRows
-loop-holds c = (omega arith, refl, refl)
-
-folded-row-requires : tie.Need-folded-row-requires Inv-loop μ-loop
-folded-row-requires c κs = (folded-kept _ _ _ _ _ (c .before .before .loop .inv .1) (c .before .before .before .before .before .before .before .pre), omega (arith, c .before .before .before .rows .ensures))
-
-add-i : tie.Need-add-i Inv-loop μ-loop
-add-i c = omega arith
-
-loop-less : tie.Need-loop-less Inv-loop μ-loop
-loop-less c = omega arith
-
-loop-again : tie.Need-loop-again Inv-loop μ-loop
-loop-again c = (omega arith, c .before .before .folded-row .kept .1 .1 .1 .1 .1 .0 ∙ c .before .before .before .before .before .loop .inv .1, rows-next _ _ _ _ _ _ _ _ (c .before .before .before .before .before .loop .inv .2) (c .before .before .folded-row .ensures))
-
-same-length : tie.Need-same-length Inv-loop μ-loop
-same-length c = c .before .loop .inv .1
-
-returns : tie.Need-returns Inv-loop μ-loop
-returns c = rows-last _ _ _ _ _ _ _ _ (c .before .before .rows .ensures) (c .before .loop .inv .0) (omega arith) (c .before .loop .inv .2)
-
 pub run-folded-spec : {M : Type 1} → statement M
-run-folded-spec =
-    tie.close
-    (tie.spec
-    Inv-loop
-    μ-loop
-    rows-requires
-    loop-holds
-    folded-row-requires
-    add-i
-    loop-less
-    loop-again
-    same-length
-    returns)
+unfolding updateRows
+run-folded-spec = tie.close (tie.spec
+    Inv-loop (λ plan a b alpha beta c₀ m i₀ c i. m - i) (λ c κs. tt) (λ c. (omega arith, refl, refl))
+    (λ c κs. (folded-kept _ _ _ _ _ (c .before .before .loop .inv .1) (c .before .before .before .before .before .before .before .pre), omega (arith, c .before .before .before .rows .ensures)))
+    (λ c. omega arith) (λ c. omega arith)
+    (λ c. (omega arith, c .before .before .folded-row .kept .1 .1 .1 .1 .1 .0 ∙ c .before .before .before .before .before .loop .inv .1, rows-next _ _ _ _ _ _ _ _ (c .before .before .before .before .before .loop .inv .2) (c .before .before .folded-row .ensures)))
+    (λ c. c .before .loop .inv .1)
+    (λ c. rows-last _ _ _ _ _ _ _ _ (c .before .before .rows .ensures) (c .before .loop .inv .0) (omega arith) (c .before .loop .inv .2)))

@@ -1,26 +1,8 @@
-use mathlib.Core.Path.{ap, _∙_}
-use borrow.Author.Needs.{needs}
-use Rattle.number.specs.Kind.{complex}
+use Rattle.rank_complex.proofs.Words.{ap, _∙_, needs, complex}
 use Rattle.rank_complex.proofs.read.Statement.{statement}
 use Rattle.rank_complex.proofs.read.Tie as tie
 
-elem-requires : tie.Need-elem-requires
-elem-requires c κs = search needs
-
-conj-requires : tie.Need-conj-requires
-conj-requires c κs = tt
-
-returns : tie.Need-returns
-returns c = rw (c .before .if1 .taken) (c .conj .ensures ∙ ap (complex .conj) (c .before .before .elem .ensures))
-
-returns-2 : tie.Need-returns-2
-returns-2 c = rw (c .if1 .left) (c .before .elem .ensures)
-
 pub read-spec : {M : Type 1} → statement M
-read-spec =
-    tie.close
-    (tie.spec
-    elem-requires
-    conj-requires
-    returns
-    returns-2)
+read-spec = tie.close (tie.spec
+    (λ c κs. search needs) (λ c κs. tt) (λ c. rw (c .before .if1 .taken) (c .conj .ensures ∙ ap (complex .conj) (c .before .before .elem .ensures)))
+    (λ c. rw (c .if1 .left) (c .before .elem .ensures)))

@@ -1,29 +1,11 @@
-use lib.Ieee.{binary32}
-use denote.Ref.{now}
-use Rattle.rank_plan.proofs.Inside.{left-a-shows, right-b-shows, left-b-shows, right-a-shows}
-use Rattle.rank_plan.proofs.Eights.{as-planned}
+use Rattle.rank_real32.proofs.Words.{binary32, now, left-a-shows, right-b-shows, left-b-shows, right-a-shows, as-planned}
 use Rattle.rank_real32.proofs.add_pairs.Statement.{statement}
 use Rattle.rank_real32.proofs.add_pairs.Tie as tie
 
-read-requires : tie.Need-read-requires
-read-requires c κs = let h = c .before .before .pre in left-a-shows _ _ _ _ _ (h .0) _ (h .1)
-
-read-requires-2 : tie.Need-read-requires-2
-read-requires-2 c κs = let h = c .before .before .before .pre in left-b-shows _ _ _ _ _ (h .0) _ (h .1)
-
-add-both-requires : tie.Need-add-both-requires
-add-both-requires c κs = let h = c .before .before .before .before .pre in (right-b-shows _ _ _ _ _ (h .0) _ (h .1), right-a-shows _ _ _ _ _ (h .0) _ (h .1))
-
-returns : tie.Need-returns
-returns c =
-    let p = c .before .before .before .before .before .args in
-    as-planned binary32 (p .plan) (now (p .a)) (now (p .b)) (p .sums) _ _ _ _ _ (p .p) (p .j) (c .before .before .read .ensures) (c .before .read2 .ensures) (c .add-both .ensures)
-
 pub add-pairs-spec : {M : Type 1} → statement M
-add-pairs-spec =
-    tie.close
-    (tie.spec
-    read-requires
-    read-requires-2
-    add-both-requires
-    returns)
+add-pairs-spec = tie.close (tie.spec
+    (λ c κs. let h = c .before .before .pre in left-a-shows _ _ _ _ _ (h .0) _ (h .1))
+    (λ c κs. let h = c .before .before .before .pre in left-b-shows _ _ _ _ _ (h .0) _ (h .1))
+    (λ c κs. let h = c .before .before .before .before .pre in (right-b-shows _ _ _ _ _ (h .0) _ (h .1), right-a-shows _ _ _ _ _ (h .0) _ (h .1)))
+    (λ c. let p = c .before .before .before .before .before .args in
+    as-planned binary32 (p .plan) (now (p .a)) (now (p .b)) (p .sums) _ _ _ _ _ (p .p) (p .j) (c .before .before .read .ensures) (c .before .read2 .ensures) (c .add-both .ensures)))

@@ -1,27 +1,15 @@
-use mathlib.Core.Path.{refl, ap, _∙_}
-use native.Mathlib.Omega.{arith}
-use denote.Ref.{now}
-use borrow.Author.Needs.{needs}
-use Rattle.number.specs.Kind.{real32}
-use Rattle.slab.specs.Elem.{elem}
-use Rattle.slab.proofs.Shown.{shown, inside}
-use Rattle.rank_plan.specs.Change.{addTwo}
-use Rattle.rank_plan.proofs.Laws.{put-replaced, more, twice}
+use Rattle.rank_real32.proofs.Words.{refl, ap, _∙_, arith, now, needs, real32, elem, shown, inside, addTwo, put-replaced, more, twice}
 use Rattle.rank_real32.proofs.her2_entry.Statement.{statement}
 use Rattle.rank_real32.proofs.her2_entry.Tie as tie
 
-place-requires : tie.Need-place-requires
-place-requires c κs = shown _ _ _ _ (c .before .before .before .pre .2) (omega arith)
-
-get-requires : tie.Need-get-requires
-get-requires c κs = inside _ _ _ _ (c .before .before .before .before .before .pre .2) _ (c .before .place .ensures)
-
-put-requires : tie.Need-put-requires
-put-requires c κs = inside _ _ _ _ (c .before .before .before .before .before .before .before .before .before .before .before .before .before .before .before .pre .2) _ (c .before .before .before .before .before .before .before .before .before .before .before .place .ensures)
-
-returns : tie.Need-returns
-returns c =
-    let p = c .before .before .before .before .before .before .before .before .before .before .before .before .before .before .before .before .before .before .args in
+pub her2-entry-spec : {M : Type 1} → statement M
+her2-entry-spec = tie.close (tie.spec
+    (λ c κs. shown _ _ _ _ (c .before .before .before .pre .2) (omega arith))
+    (λ c κs. inside _ _ _ _ (c .before .before .before .before .before .pre .2) _ (c .before .place .ensures)) (λ c κs. search needs) (λ c κs. tt)
+    (λ c κs. tt) (λ c κs. search needs) (λ c κs. tt) (λ c κs. tt) (λ c κs. tt) (λ c κs. tt)
+    (λ c κs. inside _ _ _ _ (c .before .before .before .before .before .before .before .before .before .before .before .before .before .before .before .pre .2) _ (c .before .before .before .before .before .before .before .before .before .before .before .place .ensures))
+    (λ c. search needs)
+    (λ c. let p = c .before .before .before .before .before .before .before .before .before .before .before .before .before .before .before .before .before .before .args in
     put-replaced real32 (p .va) (p .i) (p .j) (addTwo real32 (p .w .0) (p .w2 .0) (elem real32 (now (p .x)) (p .vx)) (elem real32 (now (p .y)) (p .vy)) (p .j)) (now (p .a)) _ _ _ _
     (c .before .before .before .before .before .before .before .before .before .before .before .before .before .before .place .ensures)
     (c .before .before .before .before .before .before .before .before .before .before .before .before .get .ensures)
@@ -31,22 +19,4 @@ returns c =
     (c .before .before .before .before .before .before .before .conj2 .ensures ∙ ap (real32 .conj) (c .before .before .before .before .before .before .before .before .elem2 .ensures))
     (c .before .before .before .before .before .before .mul2 .ensures)
     (c .before .before .before .add2 .ensures))
-    (c .before .before .put .ensures)
-
-pub her2-entry-spec : {M : Type 1} → statement M
-her2-entry-spec =
-    tie.close
-    (tie.spec
-    place-requires
-    get-requires
-    (λ c κs. search needs)
-    (λ c κs. tt)
-    (λ c κs. tt)
-    (λ c κs. search needs)
-    (λ c κs. tt)
-    (λ c κs. tt)
-    (λ c κs. tt)
-    (λ c κs. tt)
-    put-requires
-    (λ c. search needs)
-    returns)
+    (c .before .before .put .ensures)))

@@ -1,37 +1,13 @@
-use Prim.Native.Nat.{_+_, _≤_, _-_}
-use native.Mathlib.Omega.{arith}
-use lib.Ieee.{binary32}
-use Rattle.number.specs.Kind.{real32}
-use Rattle.slab.specs.Eight.{Eight}
-use Rattle.rank_plan.specs.Change.{weighedsAt}
-use Rattle.rank_plan.proofs.Eights.{pairs-start, pairs-next, pairs-end}
+use Rattle.rank_real32.proofs.Words.{_+_, _≤_, _-_, arith, binary32, real32, Eight, weighedsAt, pairs-start, pairs-next, pairs-end}
 use Rattle.rank_real32.proofs.weighed_sums.Statement.{statement}
 use Rattle.rank_real32.proofs.weighed_sums.Tie as tie
 
 abbrev Inv-loop : tie.InvT-loop
 Inv-loop alpha plan a b i j n sums₀ p₀ sums p = (p ≤ n) × Eight real32 sums (λ t. weighedsAt real32 plan a b (alpha .0) i (j + t) p)
 
-abbrev μ-loop : tie.MeasureT-loop
-μ-loop alpha plan a b i j n sums₀ p₀ sums p = n - p
-
-add-weigheds-requires : tie.Need-add-weigheds-requires Inv-loop μ-loop
-add-weigheds-requires c κs = (c .before .before .before .before .pre, omega arith)
-
-loop-again : tie.Need-loop-again Inv-loop μ-loop
-loop-again c = (omega arith, pairs-next real32 _ _ _ _ _ (c .before .before .loop .inv .1) (c .add-weigheds .ensures))
-
-returns : tie.Need-returns Inv-loop μ-loop
-returns c = let l = c .before .loop in pairs-end real32 _ _ _ _ _ (l .inv .0) (omega arith) (l .inv .1)
-
 pub weighed-sums-spec : {M : Type 1} → statement M
-weighed-sums-spec =
-    tie.close
-    (tie.spec
-    Inv-loop
-    μ-loop
-    (λ c. (omega arith, pairs-start binary32 _ _))
-    add-weigheds-requires
-    (λ c. omega arith)
-    (λ c. omega arith)
-    loop-again
-    returns)
+weighed-sums-spec = tie.close (tie.spec
+    Inv-loop (λ alpha plan a b i j n sums₀ p₀ sums p. n - p) (λ c. (omega arith, pairs-start binary32 _ _))
+    (λ c κs. (c .before .before .before .before .pre, omega arith)) (λ c. omega arith) (λ c. omega arith)
+    (λ c. (omega arith, pairs-next real32 _ _ _ _ _ (c .before .before .loop .inv .1) (c .add-weigheds .ensures)))
+    (λ c. let l = c .before .loop in pairs-end real32 _ _ _ _ _ (l .inv .0) (omega arith) (l .inv .1)))

@@ -1,59 +1,14 @@
-use mathlib.Core.Path.{ap, _∙_}
-use Rattle.number.specs.Kind.{real64}
-use Rattle.rank_plan.proofs.Inside.{left-a-shows, right-b-shows, left-b-shows, right-a-shows}
-use Rattle.rank_plan.proofs.Laws.{more, twice}
+use Rattle.rank_real64.proofs.Words.{ap, _∙_, real64, left-a-shows, right-b-shows, left-b-shows, right-a-shows, more, twice}
 use Rattle.rank_real64.proofs.add_weighed.Statement.{statement}
 use Rattle.rank_real64.proofs.add_weighed.Tie as tie
 
-read-requires : tie.Need-read-requires
-read-requires c κs = left-a-shows _ _ _ _ _ (c .before .before .pre .0) _ (c .before .before .pre .1)
-
-mul-requires : tie.Need-mul-requires
-mul-requires c κs = tt
-
-conj-requires : tie.Need-conj-requires
-conj-requires c κs = tt
-
-read-requires-2 : tie.Need-read-requires-2
-read-requires-2 c κs = left-b-shows _ _ _ _ _ (c .before .before .before .before .before .pre .0) _ (c .before .before .before .before .before .pre .1)
-
-mul-requires-2 : tie.Need-mul-requires-2
-mul-requires-2 c κs = tt
-
-read-requires-3 : tie.Need-read-requires-3
-read-requires-3 c κs = right-b-shows _ _ _ _ _ (c .before .before .before .before .before .before .before .pre .0) _ (c .before .before .before .before .before .before .before .pre .1)
-
-mul-requires-3 : tie.Need-mul-requires-3
-mul-requires-3 c κs = tt
-
-read-requires-4 : tie.Need-read-requires-4
-read-requires-4 c κs = right-a-shows _ _ _ _ _ (c .before .before .before .before .before .before .before .before .before .pre .0) _ (c .before .before .before .before .before .before .before .before .before .pre .1)
-
-mul-requires-4 : tie.Need-mul-requires-4
-mul-requires-4 c κs = tt
-
-add-requires : tie.Need-add-requires
-add-requires c κs = tt
-
-add-requires-2 : tie.Need-add-requires-2
-add-requires-2 c κs = tt
-
-returns : tie.Need-returns
-returns c = let p = c .before .before .before .before .before .before .before .before .before .before .before .before .before .args in twice real64 _ _ _ _ _ _ _ _ _ (more real64 _ _ _ _ _ _ _ (c .before .before .before .before .before .before .before .before .before .mul .ensures ∙ ap (real64 .mul (p .alpha .0)) (c .before .before .before .before .before .before .before .before .before .before .read .ensures)) (c .before .before .before .before .before .read3 .ensures) (c .before .before .before .before .mul3 .ensures) (c .before .add .ensures)) (c .before .before .before .before .before .before .mul2 .ensures ∙ (λ t. real64 .mul (c .before .before .before .before .before .before .before .before .conj .ensures t) (c .before .before .before .before .before .before .before .read2 .ensures t))) (c .before .before .before .read4 .ensures) (c .before .before .mul4 .ensures) (c .add2 .ensures)
-
 pub add-weighed-spec : {M : Type 1} → statement M
-add-weighed-spec =
-    tie.close
-    (tie.spec
-    read-requires
-    mul-requires
-    conj-requires
-    read-requires-2
-    mul-requires-2
-    read-requires-3
-    mul-requires-3
-    read-requires-4
-    mul-requires-4
-    add-requires
-    add-requires-2
-    returns)
+add-weighed-spec = tie.close (tie.spec
+    (λ c κs. left-a-shows _ _ _ _ _ (c .before .before .pre .0) _ (c .before .before .pre .1)) (λ c κs. tt) (λ c κs. tt)
+    (λ c κs. left-b-shows _ _ _ _ _ (c .before .before .before .before .before .pre .0) _ (c .before .before .before .before .before .pre .1))
+    (λ c κs. tt)
+    (λ c κs. right-b-shows _ _ _ _ _ (c .before .before .before .before .before .before .before .pre .0) _ (c .before .before .before .before .before .before .before .pre .1))
+    (λ c κs. tt)
+    (λ c κs. right-a-shows _ _ _ _ _ (c .before .before .before .before .before .before .before .before .before .pre .0) _ (c .before .before .before .before .before .before .before .before .before .pre .1))
+    (λ c κs. tt) (λ c κs. tt) (λ c κs. tt)
+    (λ c. let p = c .before .before .before .before .before .before .before .before .before .before .before .before .before .args in twice real64 _ _ _ _ _ _ _ _ _ (more real64 _ _ _ _ _ _ _ (c .before .before .before .before .before .before .before .before .before .mul .ensures ∙ ap (real64 .mul (p .alpha .0)) (c .before .before .before .before .before .before .before .before .before .before .read .ensures)) (c .before .before .before .before .before .read3 .ensures) (c .before .before .before .before .mul3 .ensures) (c .before .add .ensures)) (c .before .before .before .before .before .before .mul2 .ensures ∙ (λ t. real64 .mul (c .before .before .before .before .before .before .before .before .conj .ensures t) (c .before .before .before .before .before .before .before .read2 .ensures t))) (c .before .before .before .read4 .ensures) (c .before .before .mul4 .ensures) (c .add2 .ensures)))

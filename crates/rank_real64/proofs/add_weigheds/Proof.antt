@@ -1,37 +1,14 @@
-use mathlib.Core.Path.{ap, _∙_}
-use lib.Ieee.{binary64}
-use denote.Ref.{now}
-use Rattle.number.specs.Kind.{real64}
-use Rattle.rank_plan.proofs.Inside.{left-a-shows, right-b-shows, left-b-shows, right-a-shows}
-use Rattle.rank_plan.proofs.Eights.{as-planned}
+use Rattle.rank_real64.proofs.Words.{ap, _∙_, binary64, now, real64, left-a-shows, right-b-shows, left-b-shows, right-a-shows, as-planned}
 use Rattle.rank_real64.proofs.add_weigheds.Statement.{statement}
 use Rattle.rank_real64.proofs.add_weigheds.Tie as tie
 
-read-requires : tie.Need-read-requires
-read-requires c κs = let h = c .before .before .pre in left-a-shows _ _ _ _ _ (h .0) _ (h .1)
-
-read-requires-2 : tie.Need-read-requires-2
-read-requires-2 c κs = let h = c .before .before .before .before .before .pre in left-b-shows _ _ _ _ _ (h .0) _ (h .1)
-
-add-both-requires : tie.Need-add-both-requires
-add-both-requires c κs = let h = c .before .before .before .before .before .before .before .pre in (right-b-shows _ _ _ _ _ (h .0) _ (h .1), right-a-shows _ _ _ _ _ (h .0) _ (h .1))
-
-returns : tie.Need-returns
-returns c =
-    let p = c .before .before .before .before .before .before .before .before .args in
+pub add-weigheds-spec : {M : Type 1} → statement M
+add-weigheds-spec = tie.close (tie.spec
+    (λ c κs. let h = c .before .before .pre in left-a-shows _ _ _ _ _ (h .0) _ (h .1)) (λ c κs. tt) (λ c κs. tt)
+    (λ c κs. let h = c .before .before .before .before .before .pre in left-b-shows _ _ _ _ _ (h .0) _ (h .1)) (λ c κs. tt)
+    (λ c κs. let h = c .before .before .before .before .before .before .before .pre in (right-b-shows _ _ _ _ _ (h .0) _ (h .1), right-a-shows _ _ _ _ _ (h .0) _ (h .1)))
+    (λ c. let p = c .before .before .before .before .before .before .before .before .args in
     as-planned binary64 (p .plan) (now (p .a)) (now (p .b)) (p .sums) _ _ _ _ _ (p .p) (p .j)
     (c .before .before .before .before .mul .ensures ∙ ap (real64 .mul (p .alpha .0)) (c .before .before .before .before .before .read .ensures))
     (c .before .mul2 .ensures ∙ (λ t. real64 .mul (c .before .before .before .conj .ensures t) (c .before .before .read2 .ensures t)))
-    (c .add-both .ensures)
-
-pub add-weigheds-spec : {M : Type 1} → statement M
-add-weigheds-spec =
-    tie.close
-    (tie.spec
-    read-requires
-    (λ c κs. tt)
-    (λ c κs. tt)
-    read-requires-2
-    (λ c κs. tt)
-    add-both-requires
-    returns)
+    (c .add-both .ensures)))

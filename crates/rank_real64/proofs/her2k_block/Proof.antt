@@ -1,60 +1,30 @@
-use Prim.Native.Nat.{_≤_, _-_}
-use mathlib.Core.Path.{_≡_, refl, ap, _∙_}
-use native.Mathlib.Omega.{arith}
-use lib.ListN.{length}
-use denote.Ref.{now}
-use Rattle.number.specs.Kind.{real64}
-use Rattle.number.specs.Scaling.{scaleBy64}
-use Rattle.slab.specs.Update.{span}
-use Rattle.slab.proofs.LoopLaws.{span-start, span-next}
-use Rattle.rank_plan.specs.Change.{weighedsAt, her2kChange}
-use Rattle.rank_plan.proofs.Eights.{sum-of, columns-end, block-sums, block-shows}
+use Rattle.rank_real64.proofs.Words.{_≤_, _-_, _≡_, refl, ap, _∙_, arith, length, now, real64, scaleBy64, span, weighedsAt, her2kChange, sum-of, columns-end, block-sums, block-shows}
+use Rattle.slab.proofs.LoopLaws.{span-start}
+use Rattle.slab.proofs.LoopLaws.{span-next}
 use Rattle.rank_real64.proofs.her2k_block.Statement.{statement}
 use Rattle.rank_real64.proofs.her2k_block.Tie as tie
 
 abbrev Inv-loop : tie.InvT-loop
 Inv-loop beta plan a b c₀ i from first end sums j₀ c j = (first ≤ j) × (j ≤ end) × (length c ≡ length c₀) × (c ≡ span real64 (plan .target) (λ r k old. real64 .add (scaleBy64 beta old) (real64 .at sums (k - from))) i first j c₀)
 
-abbrev μ-loop : tie.MeasureT-loop
-μ-loop beta plan a b c₀ i from first end sums j₀ c j = end - j
-
-loop-holds : tie.Need-loop-holds Inv-loop μ-loop
-loop-holds c = (omega arith, c .before .before .before .before .pre .block .ordered, refl, span-start real64 _ _ _ _ _)
-
-settle-requires : tie.Need-settle-requires Inv-loop μ-loop
-settle-requires c κs = block-shows _ _ _ _ _ _ _ _ (c .before .before .before .before .before .before .before .pre) _ _ (c .before .before .loop .inv .2) (omega arith)
-
-loop-again : tie.Need-loop-again Inv-loop μ-loop
-loop-again c =
-    let l = c .before .before .before .before .before .loop in (
+pub her2k-block-spec : {M : Type 1} → statement M
+her2k-block-spec = tie.close (tie.spec
+    Inv-loop (λ beta plan a b c₀ i from first end sums j₀ c j. end - j) (λ c κs. block-sums _ _ _ _ _ _ _ _ (c .before .before .before .pre))
+    (λ c. (omega arith, c .before .before .before .before .pre .block .ordered, refl, span-start real64 _ _ _ _ _))
+    (λ c. omega (arith, c .before .before .before .before .before .before .pre .block .begins))
+    (λ c. omega (arith, c .before .before .before .before .before .before .pre .block .begins, c .before .before .before .before .before .before .pre .block .ends))
+    (λ c. omega (arith, c .before .before .before .before .before .before .pre .block .begins, c .before .before .before .before .before .before .pre .block .ends))
+    (λ c κs. block-shows _ _ _ _ _ _ _ _ (c .before .before .before .before .before .before .before .pre) _ _ (c .before .before .loop .inv .2) (omega arith))
+    (λ c. omega arith) (λ c. omega arith)
+    (λ c. let l = c .before .before .before .before .before .loop in (
       omega arith,
       omega arith,
       c .before .before .settle .kept .1 .1 .0 ∙ l .inv .2,
       span-next real64 _ _ _ _ _ _ _ _ (l .inv .0) (l .inv .3) (c .before .before .settle .ensures),
-    )
-
-returns : tie.Need-returns Inv-loop μ-loop
-returns c =
-    let s = c .before .before .before .before .before .before in
+    ))
+    (λ c. c .before .loop .inv .2)
+    (λ c. let s = c .before .before .before .before .before .before in
     let p = s .args in
     let l = c .before .loop in
     columns-end real64 _ _ (her2kChange real64 (p .plan) (now (p .a)) (now (p .b)) (p .alpha .0) (scaleBy64 (p .beta))) _ _ _ _ _ _ (l .inv .0) (l .inv .1) (omega arith) (l .inv .3)
-    (λ k f g old. ap (λ z. real64 .add (scaleBy64 (p .beta) old) z) (sum-of real64 (λ k. weighedsAt real64 (p .plan) (now (p .a)) (now (p .b)) (p .alpha .0) (p .i) k (p .plan .terms)) _ (p .from) k (c .before .before .weighed-sums .ensures) (omega (arith, s .pre .block .begins)) (omega (arith, s .pre .block .ends))))
-
-pub her2k-block-spec : {M : Type 1} → statement M
-her2k-block-spec =
-    tie.close
-    (tie.spec
-    Inv-loop
-    μ-loop
-    (λ c κs. block-sums _ _ _ _ _ _ _ _ (c .before .before .before .pre))
-    loop-holds
-    (λ c. omega (arith, c .before .before .before .before .before .before .pre .block .begins))
-    (λ c. omega (arith, c .before .before .before .before .before .before .pre .block .begins, c .before .before .before .before .before .before .pre .block .ends))
-    (λ c. omega (arith, c .before .before .before .before .before .before .pre .block .begins, c .before .before .before .before .before .before .pre .block .ends))
-    settle-requires
-    (λ c. omega arith)
-    (λ c. omega arith)
-    loop-again
-    (λ c. c .before .loop .inv .2)
-    returns)
+    (λ k f g old. ap (λ z. real64 .add (scaleBy64 (p .beta) old) z) (sum-of real64 (λ k. weighedsAt real64 (p .plan) (now (p .a)) (now (p .b)) (p .alpha .0) (p .i) k (p .plan .terms)) _ (p .from) k (c .before .before .weighed-sums .ensures) (omega (arith, s .pre .block .begins)) (omega (arith, s .pre .block .ends))))))

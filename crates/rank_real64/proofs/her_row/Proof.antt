@@ -1,58 +1,34 @@
-use Prim.Native.Nat.{_≤_, _-_}
-use mathlib.Core.Path.{_≡_, refl, sym, ap, _∙_}
-use native.Mathlib.Omega.{arith}
-use lib.ListN.{length}
-use denote.Ref.{now}
-use Rattle.number.specs.Kind.{real64}
-use Rattle.slab.specs.Elem.{elem}
-use Rattle.blas.specs.Her.{herChange}
-use Rattle.rank_plan.specs.Change.{addOne}
-use Rattle.rank_plan.proofs.Inside.{column-shows, one-shows}
-use Rattle.slab.specs.Update.{span}
-use Rattle.rank_plan.proofs.Rows.{span-start, span-next, span-last, row-lt, begins, column-lt}
-use Rattle.rank_plan.proofs.Laws.{her-same}
+use Rattle.rank_real64.proofs.Words.{_≤_, _-_, _≡_, refl, sym, ap, _∙_, arith, length, now, real64, elem, herChange, addOne, column-shows, one-shows, span, span-start, span-next, span-last, row-lt, begins, column-lt, her-same}
 use Rattle.rank_real64.proofs.her_row.Statement.{statement}
 use Rattle.rank_real64.proofs.her_row.Tie as tie
 
 abbrev Inv-loop : tie.InvT-loop
 Inv-loop alpha x vx a₀ va i w end j₀ a j = (j₀ ≤ j) × (j ≤ end) × (length a ≡ length a₀) × (a ≡ span real64 va (λ r k. addOne real64 (w .0) (elem real64 x vx) k) i j₀ j a₀)
 
-abbrev μ-loop : tie.MeasureT-loop
-μ-loop alpha x vx a₀ va i w end j₀ a j = end - j
-
-elem-requires : tie.Need-elem-requires Inv-loop μ-loop
-elem-requires c κs = column-shows _ _ _ (c .before .before .pre .0 .x) _ (c .before .before .pre .1)
-
-end-col-requires : tie.Need-end-col-requires Inv-loop μ-loop
-end-col-requires c κs = let s = c .before .before .before .before .before in row-lt _ _ (s .pre .0 .target) _ (s .pre .1) _ (c .rows .ensures ∙ sym (s .pre .0 .target .cols))
-
-loop-holds : tie.Need-loop-holds Inv-loop μ-loop
-loop-holds c =
-    let s = c .before .before .before .before .before .before .before in (
+pub her-row-spec : {M : Type 1} → statement M
+her-row-spec = tie.close (tie.spec
+    Inv-loop (λ alpha x vx a₀ va i w end j₀ a j. end - j) (λ c κs. column-shows _ _ _ (c .before .before .pre .0 .x) _ (c .before .before .pre .1))
+    (λ c κs. tt) (λ c κs. tt)
+    (λ c κs. let s = c .before .before .before .before .before in row-lt _ _ (s .pre .0 .target) _ (s .pre .1) _ (c .rows .ensures ∙ sym (s .pre .0 .target .cols)))
+    (λ c κs. tt)
+    (λ c. let s = c .before .before .before .before .before .before .before in (
       omega arith,
       begins _ _ (s .pre .0 .target) _ (s .pre .1) _ (c .before .before .rows .ensures ∙ sym (s .pre .0 .target .cols)) (s .args .uplo) _ _ (c .before .end-col .ensures) (c .first-col .ensures),
       refl,
       span-start real64 _ _ _ _ _,
-    )
-
-her-entry-requires : tie.Need-her-entry-requires Inv-loop μ-loop
-her-entry-requires c κs =
-    let s = c .before .before .before .before .before .before .before .before .before .before in
+    ))
+    (λ c κs. let s = c .before .before .before .before .before .before .before .before .before .before in
     one-shows _ _ _ _ _ (c .before .before .loop .inv .2) (s .pre .0) _ _ (s .pre .1)
-    (column-lt _ _ (s .pre .0 .target) _ (s .pre .1) _ (c .before .before .before .before .before .rows .ensures ∙ sym (s .pre .0 .target .cols)) (s .args .uplo) _ _ (c .before .before .before .before .end-col .ensures) (omega arith))
-
-loop-again : tie.Need-loop-again Inv-loop μ-loop
-loop-again c =
-    let l = c .before .before .before .before .before .loop in (
+    (column-lt _ _ (s .pre .0 .target) _ (s .pre .1) _ (c .before .before .before .before .before .rows .ensures ∙ sym (s .pre .0 .target .cols)) (s .args .uplo) _ _ (c .before .before .before .before .end-col .ensures) (omega arith)))
+    (λ c. omega arith) (λ c. omega arith)
+    (λ c. let l = c .before .before .before .before .before .loop in (
       omega arith,
       omega arith,
       c .before .before .her-entry .kept .1 .1 .1 .0 ∙ l .inv .2,
       span-next real64 _ _ _ _ _ _ _ _ (l .inv .0) (l .inv .3) (c .before .before .her-entry .ensures),
-    )
-
-returns : tie.Need-returns Inv-loop μ-loop
-returns c =
-    let s = c .before .before .before .before .before .before .before .before .before in
+    ))
+    (λ c. c .before .loop .inv .2)
+    (λ c. let s = c .before .before .before .before .before .before .before .before .before in
     let p = s .args in
     let l = c .before .loop in
     span-last real64 (p .va) (p .i) (p .uplo) (λ r k. addOne real64 (c .before .before .before .before .before .scale-real .result .0) (elem real64 (now (p .x)) (p .vx)) k) (herChange real64 (p .alpha) (elem real64 (now (p .x)) (p .vx))) _ _ _ _ _ _
@@ -63,23 +39,4 @@ returns c =
     (l .inv .1)
     (omega arith)
     (l .inv .3)
-    (her-same real64 (p .alpha) (elem real64 (now (p .x)) (p .vx)) (p .i) _ (c .before .before .before .before .before .scale-real .ensures ∙ ap (real64 .scaleReal (p .alpha)) (c .before .before .before .before .before .before .elem .ensures)))
-
-pub her-row-spec : {M : Type 1} → statement M
-her-row-spec =
-    tie.close
-    (tie.spec
-    Inv-loop
-    μ-loop
-    elem-requires
-    (λ c κs. tt)
-    (λ c κs. tt)
-    end-col-requires
-    (λ c κs. tt)
-    loop-holds
-    her-entry-requires
-    (λ c. omega arith)
-    (λ c. omega arith)
-    loop-again
-    (λ c. c .before .loop .inv .2)
-    returns)
+    (her-same real64 (p .alpha) (elem real64 (now (p .x)) (p .vx)) (p .i) _ (c .before .before .before .before .before .scale-real .ensures ∙ ap (real64 .scaleReal (p .alpha)) (c .before .before .before .before .before .before .elem .ensures)))))

@@ -1,25 +1,11 @@
-use mathlib.Core.Path.{ap, _∙_}
-use denote.Ref.{now}
-use borrow.Author.Needs.{needs}
-use Rattle.number.specs.Kind.{real64}
-use Rattle.number.specs.Scaling.{scaleBy64}
-use Rattle.rank_plan.proofs.Eights.{settled}
+use Rattle.rank_real64.proofs.Words.{ap, _∙_, now, needs, real64, scaleBy64, settled}
 use Rattle.rank_real64.proofs.syr2k_entry.Statement.{statement}
 use Rattle.rank_real64.proofs.syr2k_entry.Tie as tie
 
-returns : tie.Need-returns
-returns c =
-    let p = c .before .before .before .before .before .before .before .before .before .args in
+pub syr2k-entry-spec : {M : Type 1} → statement M
+syr2k-entry-spec = tie.close (tie.spec
+    (λ c κs. search needs) (λ c κs. tt) (λ c κs. search needs) (λ c. search needs)
+    (λ c. let p = c .before .before .before .before .before .before .before .before .before .args in
     settled real64 (p .plan .target) (p .i) (p .j) (scaleBy64 (p .beta)) _ _ (now (p .c)) _
     (c .before .before .before .before .mul .ensures ∙ ap (real64 .mul (p .alpha .0)) (c .before .before .before .before .before .pair-sum .ensures))
-    (c .before .before .settle .ensures)
-
-pub syr2k-entry-spec : {M : Type 1} → statement M
-syr2k-entry-spec =
-    tie.close
-    (tie.spec
-    (λ c κs. search needs)
-    (λ c κs. tt)
-    (λ c κs. search needs)
-    (λ c. search needs)
-    returns)
+    (c .before .before .settle .ensures)))

@@ -1,14 +1,8 @@
 -- `element` meets its contract: the walk of `Through`, to `ReadView::get`.
-use Rattle.number.specs.Kind.{real64}
-use mathlib.Core.Path.{refl}
-use contract.Running.{givenOf, tables, tablesOf}
+use Rattle.read_view.proofs.Words.{real64, refl, givenOf, tables, tablesOf, tripleOf, entered, cited, foundOutcome, readOutcome, through-meets}
 use denote.Enum.Laws as EL
-use denote.Triple.Spec.{tripleOf}
-use denote.Triple.Table.{entered, cited}
-use Rattle.read_view.specs.Read.{foundOutcome, readOutcome}
 use Rattle.read_view.proofs.Found as S
 use Rattle.read_view.proofs.Found.Laws as S′
-use Rattle.read_view.proofs.Through.{through-meets}
 use Rattle.read_view.proofs.ReadView.new as new
 use Rattle.read_view.proofs.ReadView.new.Symbol as new-def
 use Rattle.read_view.proofs.ReadView.new.Met as new-thm

@@ -1,14 +1,8 @@
 -- `element_complex` meets its contract: the walk of `Through`, to `ReadView::get_complex`.
-use Rattle.number.specs.Kind.{complex}
-use mathlib.Core.Path.{refl}
-use contract.Running.{givenOf, tables, tablesOf}
+use Rattle.read_view.proofs.Words.{complex, refl, givenOf, tables, tablesOf, tripleOf, entered, cited, foundComplexOutcome, readOutcome, through-meets}
 use denote.Enum.Laws as EL
-use denote.Triple.Spec.{tripleOf}
-use denote.Triple.Table.{entered, cited}
-use Rattle.read_view.specs.Read.{foundComplexOutcome, readOutcome}
 use Rattle.read_view.proofs.FoundComplex as S
 use Rattle.read_view.proofs.FoundComplex.Laws as S′
-use Rattle.read_view.proofs.Through.{through-meets}
 use Rattle.read_view.proofs.ReadView.new as new
 use Rattle.read_view.proofs.ReadView.new.Symbol as new-def
 use Rattle.read_view.proofs.ReadView.new.Met as new-thm

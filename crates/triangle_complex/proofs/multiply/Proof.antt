@@ -1,56 +1,20 @@
-use Prim.Native.Nat.{_≤_, _-_, ℕ, _/_}
-use mathlib.Core.Path.{_≡_, refl, _∙_, ap}
-use denote.Ref.{now}
-use native.Mathlib.Omega.{arith}
-use lib.ListN.{length}
-use Rattle.number.specs.Kind.{complex}
-use Rattle.triangle_plan.specs.declared.System.{System}
-use Rattle.triangle_plan.specs.Walk.{walk}
-use Rattle.triangle_plan.specs.Triangles.{timesIf}
-use Rattle.triangle_plan.specs.Multiply.{multiplyLine, multiplyAll}
-use Rattle.triangle_plan.proofs.WalkLaws.{walk-start, walk-next, walk-end}
-use Rattle.triangle_plan.proofs.Systems.{ready-made}
+use Rattle.triangle_complex.proofs.Words.{_≤_, _-_, ℕ, _/_, _≡_, refl, _∙_, ap, now, arith, length, complex, System, walk, timesIf, multiplyLine, multiplyAll, walk-start, walk-next, walk-end, ready-made}
 use Rattle.triangle_complex.proofs.multiply.Statement.{statement}
 use Rattle.triangle_complex.proofs.multiply.Tie as tie
 
 abbrev Inv-loop : tie.InvT-loop
 Inv-loop times alpha a b₀ sys n l₀ b l = (l ≤ n) × (length b ≡ length b₀) × (b ≡ walk l (λ i. multiplyLine complex sys a (timesIf complex times alpha) i (sys .b .rows)) b₀)
 
-abbrev μ-loop : tie.MeasureT-loop
-μ-loop times alpha a b₀ sys n l₀ b l = n - l
-
-loop-holds : tie.Need-loop-holds Inv-loop μ-loop
-loop-holds c = (omega arith, refl, walk-start _ _)
-
-multiply-line-requires : tie.Need-multiply-line-requires Inv-loop μ-loop
-multiply-line-requires c κs =
-    let g = c .before .before .before .before .before .before .before in
-    let p = g .args in
-    (ready-made (p .uplo) (p .t) (p .diag) _ _ _ _ (p .side) _ _ (g .pre) (c .before .before .before .before .system-of .ensures) (ap (λ (n : ℕ). n / 2) (c .before .before .loop .inv .1)), omega (arith, c .before .before .before .cols .ensures))
-
-loop-again : tie.Need-loop-again Inv-loop μ-loop
-loop-again c =
-    let i = c .before .before .before .before .before .loop .inv in
-    (omega arith, c .before .before .multiply-line .kept .1 .1 .1 .1 .0 ∙ i .1, walk-next _ _ _ _ _ (i .2) (c .before .before .multiply-line .ensures))
-
-returns : tie.Need-returns Inv-loop μ-loop
-returns c =
-    let p = c .before .before .before .before .before .before .args in
-    walk-end _ _ _ _ _ (omega (arith, c .before .before .cols .ensures, c .before .loop .inv .0)) (omega (arith, c .before .before .cols .ensures)) (c .before .loop .inv .2)
-    ∙ ap (λ (y : System). multiplyAll complex y (now (p .a)) (timesIf complex (p .times) (p .alpha)) (now (p .b))) (c .before .before .before .system-of .ensures)
-
 pub multiply-spec : {M : Type 1} → statement M
-multiply-spec =
-    tie.close
-    (tie.spec
-    Inv-loop
-    μ-loop
-    (λ c κs. tt)
-    (λ c κs. tt)
-    loop-holds
-    multiply-line-requires
-    (λ c. omega arith)
-    (λ c. omega arith)
-    loop-again
+multiply-spec = tie.close (tie.spec
+    Inv-loop (λ times alpha a b₀ sys n l₀ b l. n - l) (λ c κs. tt) (λ c κs. tt) (λ c. (omega arith, refl, walk-start _ _))
+    (λ c κs. let g = c .before .before .before .before .before .before .before in
+    let p = g .args in
+    (ready-made (p .uplo) (p .t) (p .diag) _ _ _ _ (p .side) _ _ (g .pre) (c .before .before .before .before .system-of .ensures) (ap (λ (n : ℕ). n / 2) (c .before .before .loop .inv .1)), omega (arith, c .before .before .before .cols .ensures)))
+    (λ c. omega arith) (λ c. omega arith)
+    (λ c. let i = c .before .before .before .before .before .loop .inv in
+    (omega arith, c .before .before .multiply-line .kept .1 .1 .1 .1 .0 ∙ i .1, walk-next _ _ _ _ _ (i .2) (c .before .before .multiply-line .ensures)))
     (λ c. c .before .loop .inv .1)
-    returns)
+    (λ c. let p = c .before .before .before .before .before .before .args in
+    walk-end _ _ _ _ _ (omega (arith, c .before .before .cols .ensures, c .before .loop .inv .0)) (omega (arith, c .before .before .cols .ensures)) (c .before .loop .inv .2)
+    ∙ ap (λ (y : System). multiplyAll complex y (now (p .a)) (timesIf complex (p .times) (p .alpha)) (now (p .b))) (c .before .before .before .system-of .ensures)))

@@ -1,57 +1,16 @@
-use Rattle.slab.proofs.LoopLaws.{rows-next, rows-last}
-use Rattle.slab.specs.Update.{updateRows, everywhere}
-use Rattle.number.specs.Kind.{complex}
-use borrow.Author.Needs.{needs}
-use lib.ListN.{length}
-use Prim.Native.Nat.{_≤_, _-_, ℕ, _/_}
-use mathlib.Core.Path.{_≡_, refl, _∙_, ap}
-use Rattle.triangle_plan.proofs.Systems.{row-in}
-use native.Mathlib.Omega.{arith}
+use Rattle.triangle_complex.proofs.Words.{rows-next, rows-last, updateRows, everywhere, complex, needs, length, _≤_, _-_, ℕ, _/_, _≡_, refl, _∙_, ap, row-in, arith}
 use Rattle.triangle_complex.proofs.scale.Statement.{statement}
 use Rattle.triangle_complex.proofs.scale.Tie as tie
 
 abbrev Inv-loop : tie.InvT-loop
 Inv-loop alpha b₀ vb m i₀ b i = (i ≤ m) × (length b ≡ length b₀) × (b ≡ updateRows complex vb everywhere (λ i j x. complex .mul alpha x) i b₀)
 
-abbrev μ-loop : tie.MeasureT-loop
-μ-loop alpha b₀ vb m i₀ b i = m - i
-
-rows-requires : tie.Need-rows-requires Inv-loop μ-loop
-rows-requires c κs = search needs
-
-loop-holds : tie.Need-loop-holds Inv-loop μ-loop
-unfolding updateRows
-loop-holds c = (omega arith, refl, refl)
-
-scale-row-requires : tie.Need-scale-row-requires Inv-loop μ-loop
-scale-row-requires c κs = row-in _ _ _ _ _ (c .before .before .before .before .before .pre) (ap (λ (n : ℕ). n / 2) (c .before .before .loop .inv .1)) (c .before .before .before .rows .ensures) (c .before .loop-test .taken)
-
-add-i : tie.Need-add-i Inv-loop μ-loop
-add-i c = omega arith
-
-loop-less : tie.Need-loop-less Inv-loop μ-loop
-loop-less c = omega arith
-
-loop-again : tie.Need-loop-again Inv-loop μ-loop
-loop-again c = (omega arith, c .before .before .scale-row .kept .1 .0 ∙ c .before .before .before .before .before .loop .inv .1, rows-next _ _ _ _ _ _ _ _ (c .before .before .before .before .before .loop .inv .2) (c .before .before .scale-row .ensures))
-
-same-length : tie.Need-same-length Inv-loop μ-loop
-same-length c = c .before .loop .inv .1
-
-returns : tie.Need-returns Inv-loop μ-loop
-returns c = rows-last _ _ _ _ _ _ _ _ (c .before .before .rows .ensures) (c .before .loop .inv .0) (omega arith) (c .before .loop .inv .2)
-
 pub scale-spec : {M : Type 1} → statement M
-scale-spec =
-    tie.close
-    (tie.spec
-    Inv-loop
-    μ-loop
-    rows-requires
-    loop-holds
-    scale-row-requires
-    add-i
-    loop-less
-    loop-again
-    same-length
-    returns)
+unfolding updateRows
+scale-spec = tie.close (tie.spec
+    Inv-loop (λ alpha b₀ vb m i₀ b i. m - i) (λ c κs. search needs) (λ c. (omega arith, refl, refl))
+    (λ c κs. row-in _ _ _ _ _ (c .before .before .before .before .before .pre) (ap (λ (n : ℕ). n / 2) (c .before .before .loop .inv .1)) (c .before .before .before .rows .ensures) (c .before .loop-test .taken))
+    (λ c. omega arith) (λ c. omega arith)
+    (λ c. (omega arith, c .before .before .scale-row .kept .1 .0 ∙ c .before .before .before .before .before .loop .inv .1, rows-next _ _ _ _ _ _ _ _ (c .before .before .before .before .before .loop .inv .2) (c .before .before .scale-row .ensures)))
+    (λ c. c .before .loop .inv .1)
+    (λ c. rows-last _ _ _ _ _ _ _ _ (c .before .before .rows .ensures) (c .before .loop .inv .0) (omega arith) (c .before .loop .inv .2)))

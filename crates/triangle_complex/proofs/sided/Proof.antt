@@ -1,46 +1,13 @@
-use Prim.Native.Nat.{ℕ, _/_}
-use mathlib.Core.Path.{ap}
-use Rattle.number.specs.Kind.{complex}
-use Rattle.number.proofs.Instances.{complex-laws}
-use Rattle.triangle_plan.proofs.InOrder.{complex-swaps}
-use Rattle.number.proofs.Commutes.{complex-commutes}
-use Rattle.triangle_plan.proofs.Systems.{ready-made}
-use Rattle.triangle_plan.proofs.Solves.{solved-gives}
-use Rattle.triangle_plan.proofs.SolveKernels.{sided-gives}
-use borrow.Author.Needs.{needs}
+use Rattle.triangle_complex.proofs.Words.{ℕ, _/_, ap, complex, complex-laws, complex-swaps, complex-commutes, ready-made, solved-gives, sided-gives, needs}
 use Rattle.triangle_complex.proofs.sided.Statement.{statement}
 use Rattle.triangle_complex.proofs.sided.Tie as tie
 
-scale-right-requires : tie.Need-scale-right-requires
-scale-right-requires c κs = search needs
-
-system-of-requires : tie.Need-system-of-requires
-system-of-requires c κs = search needs
-
-is-left-requires : tie.Need-is-left-requires
-is-left-requires c κs = search needs
-
-solve-lines-requires : tie.Need-solve-lines-requires
-solve-lines-requires c κs =
-    let p = c .before .before .before .before .before .before .before .before .before .args in
-    ready-made (p .uplo) (p .t) (p .diag) _ _ _ _ (p .side) _ _ (c .before .before .before .before .before .before .before .before .before .pre) (c .before .before .system-of .ensures) (ap (λ (n : ℕ). n / 2) (c .before .before .before .before .before .scale-right .kept .1 .1 .0))
-
-same-length : tie.Need-same-length
-same-length c = search needs
-
-returns : tie.Need-returns
-returns c =
-    let p = c .before .before .before .before .before .before .before .before .before .before .before .before .args in
-    sided-gives complex _ _ _ _ _ _ _ _ _ _ _ _ (c .before .before .before .before .before .before .before .before .scale-right .ensures) (c .before .before .before .before .is-left .ensures)
-    (solved-gives complex complex-commutes (p .uplo) (p .t) (p .diag) _ _ _ _ _ _ _ (complex-laws .slab) complex-swaps (p .side) _ (c .before .before .before .before .before .system-of .ensures) (c .before .before .before .before .before .before .before .before .before .before .before .before .pre .distinct) (c .before .before .solve-lines .ensures))
-
 pub sided-spec : {M : Type 1} → statement M
-sided-spec =
-    tie.close
-    (tie.spec
-    scale-right-requires
-    system-of-requires
-    is-left-requires
-    solve-lines-requires
-    same-length
-    returns)
+sided-spec = tie.close (tie.spec
+    (λ c κs. search needs) (λ c κs. search needs) (λ c κs. search needs)
+    (λ c κs. let p = c .before .before .before .before .before .before .before .before .before .args in
+    ready-made (p .uplo) (p .t) (p .diag) _ _ _ _ (p .side) _ _ (c .before .before .before .before .before .before .before .before .before .pre) (c .before .before .system-of .ensures) (ap (λ (n : ℕ). n / 2) (c .before .before .before .before .before .scale-right .kept .1 .1 .0)))
+    (λ c. search needs)
+    (λ c. let p = c .before .before .before .before .before .before .before .before .before .before .before .before .args in
+    sided-gives complex _ _ _ _ _ _ _ _ _ _ _ _ (c .before .before .before .before .before .before .before .before .scale-right .ensures) (c .before .before .before .before .is-left .ensures)
+    (solved-gives complex complex-commutes (p .uplo) (p .t) (p .diag) _ _ _ _ _ _ _ (complex-laws .slab) complex-swaps (p .side) _ (c .before .before .before .before .before .system-of .ensures) (c .before .before .before .before .before .before .before .before .before .before .before .before .pre .distinct) (c .before .before .solve-lines .ensures))))

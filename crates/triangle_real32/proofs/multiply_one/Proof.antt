@@ -1,46 +1,11 @@
-use mathlib.Core.Path.{refl}
-use native.Mathlib.Omega.{arith}
-use Rattle.number.specs.Kind.{real32}
-use Rattle.slab.proofs.Shown.{shown, inside}
-use Rattle.triangle_plan.proofs.Systems.{unknown-shown}
-use Rattle.triangle_plan.proofs.Multiplies.{multiply-one-is}
-use borrow.Author.Needs.{needs}
+use Rattle.triangle_real32.proofs.Words.{refl, arith, real32, shown, inside, unknown-shown, multiply-one-is, needs}
 use Rattle.triangle_real32.proofs.multiply_one.Statement.{statement}
 use Rattle.triangle_real32.proofs.multiply_one.Tie as tie
 
-rows-requires : tie.Need-rows-requires
-rows-requires c κs = search needs
-
-in-order-requires : tie.Need-in-order-requires
-in-order-requires c κs = search needs
-
-line-sum-requires : tie.Need-line-sum-requires
-line-sum-requires c κs = search needs
-
-mul-requires : tie.Need-mul-requires
-mul-requires c κs = search needs
-
-place-requires : tie.Need-place-requires
-place-requires c κs = let p = c .before .before .before .before .before .before .before .before .before .pre in shown _ _ _ _ (unknown-shown _ _ _ (p .ready) _ _ (omega (arith, c .before .before .before .before .in-order .ensures .1, c .before .before .before .before .before .rows .ensures)) (p .line)) (omega arith)
-
-put-requires : tie.Need-put-requires
-put-requires c κs = let p = c .before .before .before .before .before .before .before .before .before .before .pre in inside _ _ _ _ (unknown-shown _ _ _ (p .ready) _ _ (omega (arith, c .before .before .before .before .before .in-order .ensures .1, c .before .before .before .before .before .before .rows .ensures)) (p .line)) _ (c .place .ensures)
-
-same-length : tie.Need-same-length
-same-length c = search needs
-
-returns : tie.Need-returns
-returns c = multiply-one-is real32 _ _ _ _ _ _ _ _ _ _ _ _ _ refl (c .before .before .before .before .before .before .before .before .before .rows .ensures) (c .before .before .before .before .before .before .before .before .in-order .ensures .0) (c .before .before .before .place .ensures) (c .before .before .before .before .before .before .line-sum .ensures) (c .before .before .before .before .before .mul .ensures) (c .before .before .put .ensures)
-
 pub multiply-one-spec : {M : Type 1} → statement M
-multiply-one-spec =
-    tie.close
-    (tie.spec
-    rows-requires
-    in-order-requires
-    line-sum-requires
-    mul-requires
-    place-requires
-    put-requires
-    same-length
-    returns)
+multiply-one-spec = tie.close (tie.spec
+    (λ c κs. search needs) (λ c κs. search needs) (λ c κs. search needs) (λ c κs. search needs)
+    (λ c κs. let p = c .before .before .before .before .before .before .before .before .before .pre in shown _ _ _ _ (unknown-shown _ _ _ (p .ready) _ _ (omega (arith, c .before .before .before .before .in-order .ensures .1, c .before .before .before .before .before .rows .ensures)) (p .line)) (omega arith))
+    (λ c κs. let p = c .before .before .before .before .before .before .before .before .before .before .pre in inside _ _ _ _ (unknown-shown _ _ _ (p .ready) _ _ (omega (arith, c .before .before .before .before .before .in-order .ensures .1, c .before .before .before .before .before .before .rows .ensures)) (p .line)) _ (c .place .ensures))
+    (λ c. search needs)
+    (λ c. multiply-one-is real32 _ _ _ _ _ _ _ _ _ _ _ _ _ refl (c .before .before .before .before .before .before .before .before .before .rows .ensures) (c .before .before .before .before .before .before .before .before .in-order .ensures .0) (c .before .before .before .place .ensures) (c .before .before .before .before .before .before .line-sum .ensures) (c .before .before .before .before .before .mul .ensures) (c .before .before .put .ensures)))

@@ -1,24 +1,10 @@
-use denote.Ref.{now}
-use native.Mathlib.Omega.{arith}
-use Rattle.number.specs.Kind.{real32}
-use Rattle.triangle_plan.proofs.Systems.{run-spans}
-use Rattle.triangle_plan.proofs.LineSums.{own-last-is}
-use borrow.Author.Needs.{needs}
+use Rattle.triangle_real32.proofs.Words.{now, arith, real32, run-spans, own-last-is, needs}
 use Rattle.triangle_real32.proofs.own_last.Statement.{statement}
 use Rattle.triangle_real32.proofs.own_last.Tie as tie
 
-add-run-requires : tie.Need-add-run-requires
-add-run-requires c κs = let p = c .before .before .pre in run-spans _ _ _ (p .0 .ready) _ _ _ _ (p .0 .unknown) (p .0 .line) (omega (arith, p .0 .unknown, p .1))
-
-own-term-requires : tie.Need-own-term-requires
-own-term-requires c κs = search needs
-
 pub own-last-spec : {M : Type 1} → statement M
-own-last-spec =
-    tie.close
-    (tie.spec
+own-last-spec = tie.close (tie.spec
     (λ c. omega (arith, c .before .before .pre .1))
-    add-run-requires
-    own-term-requires
-    (λ c κs. tt)
+    (λ c κs. let p = c .before .before .pre in run-spans _ _ _ (p .0 .ready) _ _ _ _ (p .0 .unknown) (p .0 .line) (omega (arith, p .0 .unknown, p .1)))
+    (λ c κs. search needs) (λ c κs. tt)
     (λ c. let p = c .before .before .before .before .before .args in own-last-is real32 (p .sys) (now (p .a)) (now (p .b)) (p .q) (p .l) (p .from) _ (p .x) _ _ _ (c .before .before .add-run .ensures) (c .before .own-term .ensures) (c .add .ensures)))

@@ -1,42 +1,10 @@
-use Rattle.number.specs.Kind.{real32}
-use Rattle.triangle_plan.proofs.Solves.{lines-in, unknowns-in, lines-solved}
-use borrow.Author.Needs.{needs}
+use Rattle.triangle_real32.proofs.Words.{real32, lines-in, unknowns-in, lines-solved, needs}
 use Rattle.triangle_real32.proofs.solve_few.Statement.{statement}
 use Rattle.triangle_real32.proofs.solve_few.Tie as tie
 
-first-zero-requires : tie.Need-first-zero-requires
-first-zero-requires c κs = search needs
-
-stops-requires : tie.Need-stops-requires
-stops-requires c κs = search needs
-
-cols-requires : tie.Need-cols-requires
-cols-requires c κs = search needs
-
-lines-solved-requires : tie.Need-lines-solved-requires
-lines-solved-requires c κs = search needs
-
-solve-unknowns-requires : tie.Need-solve-unknowns-requires
-solve-unknowns-requires c κs = (c .before .before .before .before .before .before .before .pre, (lines-in (c .before .before .before .before .before .before .before .args .sys .side) _ _ _ _ _ (c .before .before .before .stops .ensures) (c .before .before .cols .ensures) (c .before .lines-solved .ensures), unknowns-in real32 _ _ _ (c .before .before .before .before .first-zero .ensures)))
-
-solved-requires : tie.Need-solved-requires
-solved-requires c κs = search needs
-
-same-length : tie.Need-same-length
-same-length c = search needs
-
-returns : tie.Need-returns
-returns c = lines-solved real32 _ _ _ _ _ _ _ _ _ _ (c .before .before .before .before .before .before .before .before .first-zero .ensures) (c .before .before .before .before .before .before .before .stops .ensures) (c .before .before .before .before .before .before .cols .ensures) (c .before .before .before .before .before .lines-solved .ensures) (c .solved .ensures) (c .before .before .before .solve-unknowns .ensures)
-
 pub solve-few-spec : {M : Type 1} → statement M
-solve-few-spec =
-    tie.close
-    (tie.spec
-    first-zero-requires
-    stops-requires
-    cols-requires
-    lines-solved-requires
-    solve-unknowns-requires
-    solved-requires
-    same-length
-    returns)
+solve-few-spec = tie.close (tie.spec
+    (λ c κs. search needs) (λ c κs. search needs) (λ c κs. search needs) (λ c κs. search needs)
+    (λ c κs. (c .before .before .before .before .before .before .before .pre, (lines-in (c .before .before .before .before .before .before .before .args .sys .side) _ _ _ _ _ (c .before .before .before .stops .ensures) (c .before .before .cols .ensures) (c .before .lines-solved .ensures), unknowns-in real32 _ _ _ (c .before .before .before .before .first-zero .ensures))))
+    (λ c κs. search needs) (λ c. search needs)
+    (λ c. lines-solved real32 _ _ _ _ _ _ _ _ _ _ (c .before .before .before .before .before .before .before .before .first-zero .ensures) (c .before .before .before .before .before .before .before .stops .ensures) (c .before .before .before .before .before .before .cols .ensures) (c .before .before .before .before .before .lines-solved .ensures) (c .solved .ensures) (c .before .before .before .solve-unknowns .ensures)))

@@ -1,49 +1,11 @@
-use lib.Ieee.{binary32}
-use mathlib.Core.Path.{refl}
-use Rattle.number.specs.Kind.{real32}
-use Rattle.number.proofs.Instances.{real32-laws}
-use Rattle.triangle_plan.proofs.InOrder.{real-swaps}
-use Rattle.number.proofs.Commutes.{real-commutes}
-use Rattle.triangle_plan.proofs.Judged.{matrix-runs}
-use Rattle.triangle_plan.proofs.ProductKernels.{trmm-refused, trmm-done}
-use Rattle.triangle_plan.proofs.Systems.{ready-made}
-use borrow.Author.Needs.{needs}
+use Rattle.triangle_real32.proofs.Words.{binary32, refl, real32, real32-laws, real-swaps, real-commutes, matrix-runs, trmm-refused, trmm-done, ready-made, needs}
 use Rattle.triangle_real32.proofs.trmm.Statement.{statement}
 use Rattle.triangle_real32.proofs.trmm.Tie as tie
 
-quick-trmm-requires : tie.Need-quick-trmm-requires
-quick-trmm-requires c κs = search needs
-
-check-trmm-requires : tie.Need-check-trmm-requires
-check-trmm-requires c κs = c .quick-trmm .ensures
-
-passed-requires : tie.Need-passed-requires
-passed-requires c κs = search needs
-
-system-of-requires : tie.Need-system-of-requires
-system-of-requires c κs = search needs
-
-multiply-requires : tie.Need-multiply-requires
-multiply-requires c κs = ready-made _ _ _ _ _ _ _ _ _ _ (matrix-runs _ _ _ _ _ _ _ (c .before .before .before .before .check-trmm .ensures) (c .before .before .before .passed .ensures) (c .before .before .if1 .taken)) (c .before .system-of .ensures) refl
-
-same-length : tie.Need-same-length
-same-length c = search needs
-
-returns : tie.Need-returns
-returns c = trmm-done real32 (real32-laws .slab) (real-swaps binary32) (real-commutes binary32) _ _ _ _ _ _ _ _ _ (c .before .before .before .before .before .before .before .check-trmm .ensures) (c .before .before .before .before .before .before .passed .ensures) (c .before .before .before .before .before .if1 .taken) _ (c .before .before .before .before .system-of .ensures) _ (c .before .before .multiply .ensures)
-
-returns-2 : tie.Need-returns-2
-returns-2 c = trmm-refused real32 (real32-laws .slab) (real-swaps binary32) (real-commutes binary32) _ _ _ _ _ _ _ _ _ (c .before .before .check-trmm .ensures) (c .before .passed .ensures) (c .if1 .left)
-
 pub trmm-spec : {M : Type 1} → statement M
-trmm-spec =
-    tie.close
-    (tie.spec
-    quick-trmm-requires
-    check-trmm-requires
-    passed-requires
-    system-of-requires
-    multiply-requires
-    same-length
-    returns
-    returns-2)
+trmm-spec = tie.close (tie.spec
+    (λ c κs. search needs) (λ c κs. c .quick-trmm .ensures) (λ c κs. search needs) (λ c κs. search needs)
+    (λ c κs. ready-made _ _ _ _ _ _ _ _ _ _ (matrix-runs _ _ _ _ _ _ _ (c .before .before .before .before .check-trmm .ensures) (c .before .before .before .passed .ensures) (c .before .before .if1 .taken)) (c .before .system-of .ensures) refl)
+    (λ c. search needs)
+    (λ c. trmm-done real32 (real32-laws .slab) (real-swaps binary32) (real-commutes binary32) _ _ _ _ _ _ _ _ _ (c .before .before .before .before .before .before .before .check-trmm .ensures) (c .before .before .before .before .before .before .passed .ensures) (c .before .before .before .before .before .if1 .taken) _ (c .before .before .before .before .system-of .ensures) _ (c .before .before .multiply .ensures))
+    (λ c. trmm-refused real32 (real32-laws .slab) (real-swaps binary32) (real-commutes binary32) _ _ _ _ _ _ _ _ _ (c .before .before .check-trmm .ensures) (c .before .passed .ensures) (c .if1 .left)))

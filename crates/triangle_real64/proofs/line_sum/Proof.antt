@@ -1,40 +1,9 @@
-use Prim.Native.Nat.{_-_}
-use mathlib.Core.Path.{_≡_}
-use native.Mathlib.Omega.{arith}
-use lib.Ieee.{binary64}
-use Rattle.number.specs.Kind.{real64}
-use Rattle.number.proofs.Literals.{zero-literal}
-use Rattle.triangle_plan.proofs.LineSums.{line-behind, line-before}
-use borrow.Author.Needs.{needs}
+use Rattle.triangle_real64.proofs.Words.{_-_, _≡_, arith, binary64, real64, zero-literal, line-behind, line-before, needs}
 use Rattle.triangle_real64.proofs.line_sum.Statement.{statement}
 use Rattle.triangle_real64.proofs.line_sum.Tie as tie
 
-sub-n : tie.Need-sub-n
-sub-n c = search needs
-
-sub-n-2 : tie.Need-sub-n-2
-sub-n-2 c = search needs
-
-own-first-requires : tie.Need-own-first-requires
-own-first-requires c κs = search needs
-
-own-last-requires : tie.Need-own-last-requires
-own-last-requires c κs = search needs
-
-returns-2 : tie.Need-returns-2
-returns-2 c =
-    let q = c .before .before .before .before .args .q in
-    let all : q - 0 ≡ q = omega arith in
-    line-before real64 _ _ _ _ _ _ _ _ (c .before .if1 .left) (zero-literal binary64) all (c .own-last .ensures)
-
 pub line-sum-spec : {M : Type 1} → statement M
-line-sum-spec =
-    tie.close
-    (tie.spec
-    (λ c κs. tt)
-    sub-n
-    sub-n-2
-    own-first-requires
-    own-last-requires
+line-sum-spec = tie.close (tie.spec
+    (λ c κs. tt) (λ c. search needs) (λ c. search needs) (λ c κs. search needs) (λ c κs. search needs)
     (λ c. line-behind real64 _ _ _ _ _ _ _ (c .before .before .if1 .taken) (c .before .rows .ensures) (c .own-first .ensures))
-    returns-2)
+    (λ c. let q = c .before .before .before .before .args .q in let all : q - 0 ≡ q = omega arith in line-before real64 _ _ _ _ _ _ _ _ (c .before .if1 .left) (zero-literal binary64) all (c .own-last .ensures)))

@@ -1,20 +1,8 @@
-use Rattle.number.specs.Kind.{real64}
-use Rattle.triangle_plan.proofs.Systems.{weighed}
-use borrow.Author.Needs.{needs}
+use Rattle.triangle_real64.proofs.Words.{real64, weighed, needs}
 use Rattle.triangle_real64.proofs.own_term.Statement.{statement}
 use Rattle.triangle_real64.proofs.own_term.Tie as tie
 
-own-weight-requires : tie.Need-own-weight-requires
-own-weight-requires c κs = search needs
-
-elem-requires : tie.Need-elem-requires
-elem-requires c κs = search needs
-
 pub own-term-spec : {M : Type 1} → statement M
-own-term-spec =
-    tie.close
-    (tie.spec
-    own-weight-requires
-    elem-requires
-    (λ c κs. tt)
+own-term-spec = tie.close (tie.spec
+    (λ c κs. search needs) (λ c κs. search needs) (λ c κs. tt)
     (λ c. weighed real64 _ _ _ _ _ (c .before .before .own-weight .ensures) (c .before .elem .ensures) (c .mul .ensures)))

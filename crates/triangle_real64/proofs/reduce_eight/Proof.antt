@@ -1,61 +1,22 @@
-use Prim.Native.Nat.{_+_, _≤_, _-_}
-use mathlib.Core.Path.{refl}
-use denote.Ref.{now}
-use native.Mathlib.Omega.{arith}
-use lib.Ieee.{binary64}
-use borrow.Kind.Array.{good-length, eFloat}
-use Rattle.number.specs.Kind.{real64}
-use Rattle.slab.specs.Eight.{Eight}
-use Rattle.slab.specs.Elem.{elem}
-use Rattle.slab.specs.Run.{elemConj}
-use Rattle.blas.specs.Substitution.{minusTerms}
-use Rattle.triangle_plan.proofs.Runs.{run-end, span-left, span-right, less-first, less-on, less-done}
+use Rattle.triangle_real64.proofs.Words.{_+_, _≤_, _-_, refl, now, arith, binary64, good-length, eFloat, real64, Eight, elem, elemConj, minusTerms, run-end, span-left, span-right, less-first, less-on, less-done}
 use Rattle.triangle_real64.proofs.reduce_eight.Statement.{statement}
 use Rattle.triangle_real64.proofs.reduce_eight.Tie as tie
 
 abbrev Inv-loop : tie.InvT-loop
 Inv-loop conjugated a va b vb q l from n rest₀ end p₀ rest p = (from ≤ p) × (p ≤ end) × Eight real64 rest (λ t. minusTerms real64 (real64 .at rest₀ t) (λ i. real64 .mul (elemConj real64 conjugated a va q i) (elem real64 b vb i (l + t))) from (p - from))
 
-abbrev μ-loop : tie.MeasureT-loop
-μ-loop conjugated a va b vb q l from n rest₀ end p₀ rest p = end - p
-
-end-fits : tie.Need-add-end Inv-loop μ-loop
-end-fits c = omega (arith, run-end _ _ _ _ _ _ _ _ (c .before .before .pre) (omega arith))
-
-loop-holds : tie.Need-loop-holds Inv-loop μ-loop
-loop-holds c =
-    let p = c .before .before .args in
-    (omega arith, omega arith, less-first real64 (p .conjugated) (now (p .a)) (p .va) (now (p .b)) (p .vb) (p .q) (p .l) (p .from) (p .xs) (good-length (eFloat binary64) 8 (p .xs) _ (c .before .before .good .1 .1 .1 .1 .1 .1 .1 .1 .1 .0)))
-
-at-requires : tie.Need-at-requires Inv-loop μ-loop
-at-requires c κs = span-left _ _ _ _ _ _ _ _ (c .before .before .before .before .pre) _ _ refl (c .before .loop .inv .0) (omega arith)
-
-minus-eight-requires : tie.Need-minus-eight-requires Inv-loop μ-loop
-minus-eight-requires c κs = span-right _ _ _ _ _ _ _ _ (c .before .before .before .before .before .pre) _ _ refl (c .before .before .loop .inv .0) (omega arith)
-
-loop-again : tie.Need-loop-again Inv-loop μ-loop
-loop-again c =
-    let p = c .before .before .before .before .before .before .args in
-    let i = c .before .before .before .loop .inv in
-    (omega arith, omega arith, less-on real64 (p .conjugated) (now (p .a)) (p .va) (now (p .b)) (p .vb) (p .q) (p .l) (p .from) (p .xs) _ _ _ _ (i .0) (c .before .at .ensures) (i .2) (c .minus-eight .ensures))
-
-returns : tie.Need-returns Inv-loop μ-loop
-returns c =
-    let p = c .before .before .before .before .args in
-    let i = c .before .loop .inv in
-    less-done real64 (p .conjugated) (now (p .a)) (p .va) (now (p .b)) (p .vb) (p .q) (p .l) (p .from) (p .xs) _ _ _ _ refl (i .1) (omega arith) (i .2)
-
 pub reduce-eight-spec : {M : Type 1} → statement M
-reduce-eight-spec =
-    tie.close
-    (tie.spec
-    Inv-loop
-    μ-loop
-    end-fits
-    loop-holds
-    at-requires
-    minus-eight-requires
-    (λ c. omega (arith, run-end _ _ _ _ _ _ _ _ (c .before .before .before .before .before .before .pre) (omega arith)))
-    (λ c. omega arith)
-    loop-again
-    returns)
+reduce-eight-spec = tie.close (tie.spec
+    Inv-loop (λ conjugated a va b vb q l from n rest₀ end p₀ rest p. end - p)
+    (λ c. omega (arith, run-end _ _ _ _ _ _ _ _ (c .before .before .pre) (omega arith)))
+    (λ c. let p = c .before .before .args in
+    (omega arith, omega arith, less-first real64 (p .conjugated) (now (p .a)) (p .va) (now (p .b)) (p .vb) (p .q) (p .l) (p .from) (p .xs) (good-length (eFloat binary64) 8 (p .xs) _ (c .before .before .good .1 .1 .1 .1 .1 .1 .1 .1 .1 .0))))
+    (λ c κs. span-left _ _ _ _ _ _ _ _ (c .before .before .before .before .pre) _ _ refl (c .before .loop .inv .0) (omega arith))
+    (λ c κs. span-right _ _ _ _ _ _ _ _ (c .before .before .before .before .before .pre) _ _ refl (c .before .before .loop .inv .0) (omega arith))
+    (λ c. omega (arith, run-end _ _ _ _ _ _ _ _ (c .before .before .before .before .before .before .pre) (omega arith))) (λ c. omega arith)
+    (λ c. let p = c .before .before .before .before .before .before .args in
+    let i = c .before .before .before .loop .inv in
+    (omega arith, omega arith, less-on real64 (p .conjugated) (now (p .a)) (p .va) (now (p .b)) (p .vb) (p .q) (p .l) (p .from) (p .xs) _ _ _ _ (i .0) (c .before .at .ensures) (i .2) (c .minus-eight .ensures)))
+    (λ c. let p = c .before .before .before .before .args in
+    let i = c .before .loop .inv in
+    less-done real64 (p .conjugated) (now (p .a)) (p .va) (now (p .b)) (p .vb) (p .q) (p .l) (p .from) (p .xs) _ _ _ _ refl (i .1) (omega arith) (i .2)))

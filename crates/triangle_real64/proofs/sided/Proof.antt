@@ -1,45 +1,13 @@
-use lib.Ieee.{binary64}
-use Rattle.number.specs.Kind.{real64}
-use Rattle.number.proofs.Instances.{real64-laws}
-use Rattle.triangle_plan.proofs.InOrder.{real-swaps}
-use Rattle.number.proofs.Commutes.{real-commutes}
-use Rattle.triangle_plan.proofs.Systems.{ready-made}
-use Rattle.triangle_plan.proofs.Solves.{solved-gives}
-use Rattle.triangle_plan.proofs.SolveKernels.{sided-gives}
-use borrow.Author.Needs.{needs}
+use Rattle.triangle_real64.proofs.Words.{binary64, real64, real64-laws, real-swaps, real-commutes, ready-made, solved-gives, sided-gives, needs}
 use Rattle.triangle_real64.proofs.sided.Statement.{statement}
 use Rattle.triangle_real64.proofs.sided.Tie as tie
 
-scale-right-requires : tie.Need-scale-right-requires
-scale-right-requires c κs = search needs
-
-system-of-requires : tie.Need-system-of-requires
-system-of-requires c κs = search needs
-
-is-left-requires : tie.Need-is-left-requires
-is-left-requires c κs = search needs
-
-solve-lines-requires : tie.Need-solve-lines-requires
-solve-lines-requires c κs =
-    let p = c .before .before .before .before .before .before .before .before .before .args in
-    ready-made (p .uplo) (p .t) (p .diag) _ _ _ _ (p .side) _ _ (c .before .before .before .before .before .before .before .before .before .pre) (c .before .before .before .before .before .before .system-of .ensures) (c .before .before .before .before .scale-right .kept .1 .1 .0)
-
-same-length : tie.Need-same-length
-same-length c = search needs
-
-returns : tie.Need-returns
-returns c =
-    let p = c .before .before .before .before .before .before .before .before .before .before .before .before .args in
-    sided-gives real64 _ _ _ _ _ _ _ _ _ _ _ _ (c .before .before .before .before .before .before .before .scale-right .ensures) (c .before .before .before .before .is-left .ensures)
-    (solved-gives real64 (real-commutes binary64) (p .uplo) (p .t) (p .diag) _ _ _ _ _ _ _ (real64-laws .slab) (real-swaps binary64) (p .side) _ (c .before .before .before .before .before .before .before .before .before .system-of .ensures) (c .before .before .before .before .before .before .before .before .before .before .before .before .pre .distinct) (c .before .before .solve-lines .ensures))
-
 pub sided-spec : {M : Type 1} → statement M
-sided-spec =
-    tie.close
-    (tie.spec
-    system-of-requires
-    scale-right-requires
-    is-left-requires
-    solve-lines-requires
-    same-length
-    returns)
+sided-spec = tie.close (tie.spec
+    (λ c κs. search needs) (λ c κs. search needs) (λ c κs. search needs)
+    (λ c κs. let p = c .before .before .before .before .before .before .before .before .before .args in
+    ready-made (p .uplo) (p .t) (p .diag) _ _ _ _ (p .side) _ _ (c .before .before .before .before .before .before .before .before .before .pre) (c .before .before .before .before .before .before .system-of .ensures) (c .before .before .before .before .scale-right .kept .1 .1 .0))
+    (λ c. search needs)
+    (λ c. let p = c .before .before .before .before .before .before .before .before .before .before .before .before .args in
+    sided-gives real64 _ _ _ _ _ _ _ _ _ _ _ _ (c .before .before .before .before .before .before .before .scale-right .ensures) (c .before .before .before .before .is-left .ensures)
+    (solved-gives real64 (real-commutes binary64) (p .uplo) (p .t) (p .diag) _ _ _ _ _ _ _ (real64-laws .slab) (real-swaps binary64) (p .side) _ (c .before .before .before .before .before .before .before .before .before .system-of .ensures) (c .before .before .before .before .before .before .before .before .before .before .before .before .pre .distinct) (c .before .before .solve-lines .ensures))))

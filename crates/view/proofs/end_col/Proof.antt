@@ -1,21 +1,6 @@
-use borrow.Author.Needs.{needs}
+use Rattle.view.proofs.Words.{needs}
 use Rattle.view.proofs.end_col.Statement.{statement}
 use Rattle.view.proofs.end_col.Tie as tie
 
-enum-told : tie.Need-enum-told
-enum-told c = search needs
-
-enum-told-2 : tie.Need-enum-told-2
-enum-told-2 c = search needs
-
-add-result : tie.Need-add-result
-add-result c = search needs
-
-returns : tie.Need-returns
-returns c = rw (c .enum-told .given .1)
-
-returns-2 : tie.Need-returns-2
-returns-2 c = rw (c .enum-told2 .given .1)
-
 pub end-col-spec : {M : Type 1} → statement M
-end-col-spec = tie.close (tie.spec enum-told enum-told-2 add-result returns returns-2)
+end-col-spec = tie.close (tie.spec (λ c. search needs) (λ c. search needs) (λ c. search needs) (λ c. rw (c .enum-told .given .1)) (λ c. rw (c .enum-told2 .given .1)))

@@ -1,16 +1,5 @@
 -- `place` meets its contract. Each step fits, and what the machine reads back from its bits is the number of the formula.
-use mathlib.Core.Path.{_≡_, sym, ap, _∙_, subst}
-use Prim.Native.Nat.{_^_, _<_}
-use native.Mathlib.Omega.{arith}
-use lib.Dec.{T}
-use lib.IntN.{ℤ, pos, natAbs, _+ℤ_, _*ℤ_}
-use lib.Signed.{nonNeg}
-use mir.Syntax.{w64}
-use mir.Val.{Fits, SFits, toZ, ofZ}
-use mir.Facts.{toZ-ofZ}
-use mir.ValLaws.{toZ-pos}
-use Rattle.view.specs.Place.{index}
-use Rattle.view.proofs.Placed.{Sound, sound}
+use Rattle.view.proofs.Words.{_≡_, sym, ap, _∙_, subst, _^_, _<_, arith, T, ℤ, pos, natAbs, _+ℤ_, _*ℤ_, nonNeg, w64, Fits, SFits, toZ, ofZ, toZ-ofZ, toZ-pos, index, Sound, sound}
 use Rattle.view.proofs.place.Statement.{statement}
 use Rattle.view.proofs.place.Tie as tie
 
@@ -22,20 +11,12 @@ in-range s =
     let h : index (s .args .v) (s .args .r) (s .args .c) < 2 ^ 63 = subst (SFits w64) (all s .is) (all s .whole) .sfits in
     record { fits = omega arith }
 
-cast-result : tie.Need-cast-result
-cast-result c = record { sfits = all (c .before) .start-lt }
-
 -- the strides
 rs-is : (c : tie.After-struct-told) → toZ w64 (ofZ w64 (c .before .before .args .v .rs)) ≡ c .before .before .args .v .rs
 rs-is c = toZ-ofZ {w = w64} {z = c .before .before .args .v .rs} (record { sfits = c .struct-told .given .1 .1 .1 .0 .1 })
 
 cs-is : (c : tie.After-struct-told2) → toZ w64 (ofZ w64 (c .before .before .before .before .args .v .cs)) ≡ c .before .before .before .before .args .v .cs
 cs-is c = toZ-ofZ {w = w64} {z = c .before .before .before .before .args .v .cs} (record { sfits = c .struct-told2 .given .1 .1 .1 .1 .0 .1 })
-
-steps-requires : tie.Need-steps-requires
-steps-requires c κs =
-    let s = c .before .before in
-    (all s .row-lt, subst (λ (z : ℤ). SFits w64 (pos (s .args .r) *ℤ z)) (sym (rs-is c)) (all s .row))
 
 -- the start and the steps down the rows
 row-is : (c : tie.After-steps) → toZ w64 (ofZ w64 (c .steps .result)) ≡ pos (c .before .before .before .args .r) *ℤ c .before .before .before .args .v .rs
@@ -52,11 +33,6 @@ part c =
 add-result : tie.Need-add-result
 add-result c = subst (SFits w64) (sym (part c)) (all (c .before .before .before) .part)
 
-steps-requires-2 : tie.Need-steps-requires-2
-steps-requires-2 c κs =
-    let s = c .before .before .before .before in
-    (all s .col-lt, subst (λ (z : ℤ). SFits w64 (pos (s .args .c) *ℤ z)) (sym (cs-is c)) (all s .col))
-
 -- the whole sum
 col-is : (c : tie.After-steps2) → (let s = c .before .before .before .before .before in toZ w64 (ofZ w64 (c .steps2 .result)) ≡ pos (s .args .c) *ℤ s .args .v .cs)
 col-is c =
@@ -72,22 +48,11 @@ total c =
 add-result-2 : tie.Need-add-result-2
 add-result-2 c = subst (SFits w64) (sym (total c)) (all (c .before .before .before .before .before) .whole)
 
-cast-result-2 : tie.Need-cast-result-2
-cast-result-2 c =
-    let s = c .before .before .before .before .before in
-    subst (λ (z : ℤ). T (nonNeg z) × Fits w64 (natAbs z)) (sym (toZ-ofZ (add-result-2 c) ∙ total c ∙ all s .is)) (tt, in-range s)
-
-returns : tie.Need-returns
-returns c = ap natAbs (toZ-ofZ (add-result-2 c) ∙ total c ∙ all (c .before .before .before .before .before) .is)
-
 pub place-spec : {M : Type 1} → statement M
-place-spec =
-    tie.close
-    (tie.spec
-    cast-result
-    steps-requires
-    add-result
-    steps-requires-2
+place-spec = tie.close (tie.spec
+    (λ c. record { sfits = all (c .before) .start-lt })
+    (λ c κs. let s = c .before .before in (all s .row-lt, subst (λ (z : ℤ). SFits w64 (pos (s .args .r) *ℤ z)) (sym (rs-is c)) (all s .row))) add-result
+    (λ c κs. let s = c .before .before .before .before in (all s .col-lt, subst (λ (z : ℤ). SFits w64 (pos (s .args .c) *ℤ z)) (sym (cs-is c)) (all s .col)))
     add-result-2
-    cast-result-2
-    returns)
+    (λ c. let s = c .before .before .before .before .before in subst (λ (z : ℤ). T (nonNeg z) × Fits w64 (natAbs z)) (sym (toZ-ofZ (add-result-2 c) ∙ total c ∙ all s .is)) (tt, in-range s))
+    (λ c. ap natAbs (toZ-ofZ (add-result-2 c) ∙ total c ∙ all (c .before .before .before .before .before) .is)))

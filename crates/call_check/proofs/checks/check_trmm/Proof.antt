@@ -1,12 +1,7 @@
 -- `check_trmm` meets its contract: a call that the quick test passes is not refused, and another is judged in full.
-use borrow.Author.Needs.{needs}
-use mathlib.Core.Path.{sym, _∙_}
-use Rattle.call_check.proofs.Passes.{quick-trmm-passes}
+use Rattle.call_check.proofs.Words.{needs, sym, _∙_, quick-trmm-passes}
 use Rattle.call_check.proofs.checks.check_trmm.Statement.{statement}
 use Rattle.call_check.proofs.checks.check_trmm.Tie as tie
 
-returns : tie.Need-returns
-returns c = sym (quick-trmm-passes _ _ _ _ _ (sym (c .before .pre) ∙ c .if1 .taken))
-
 pub check-trmm-spec : {M : Type 1} → statement M
-check-trmm-spec = tie.close (tie.spec (search needs) (search needs) returns (λ c. cc))
+check-trmm-spec = tie.close (tie.spec (search needs) (search needs) (λ c. sym (quick-trmm-passes _ _ _ _ _ (sym (c .before .pre) ∙ c .if1 .taken))) (λ c. cc))

@@ -1,20 +1,12 @@
 -- `judge3` meets its contract: the number is the answer's, and the parts are the view's.
-use borrow.Author.Needs.{needs}
-use mathlib.Core.Path.{ap, _∙_}
-use Rattle.view.specs.Judge.{answerOf}
-use Rattle.call_check.proofs.Parts.{parts-are, same-judge, answer-back}
+use Rattle.call_check.proofs.Words.{needs, ap, _∙_, answerOf, parts-are, same-judge, answer-back}
 use Rattle.call_check.proofs.checks.judge3.Statement.{statement}
 use Rattle.call_check.proofs.checks.judge3.Tie as tie
 
-number-of-requires : tie.Need-number-of-requires
-number-of-requires c κs = search needs
-
-answer-of-requires : tie.Need-answer-of-requires
-answer-of-requires c κs = search needs
-
-returns : tie.Need-returns
-returns c =
-    let s = c .before .before .before .before .before .before .before .before in
+pub judge3-spec : {M : Type 1} → statement M
+judge3-spec = tie.close (tie.spec
+    (λ c κs. search needs) (λ c κs. search needs)
+    (λ c. let s = c .before .before .before .before .before .before .before .before in
     let a = c .before .before .before .before .before .before .before .struct-told .given .1 .1 .1 in
     let b = c .before .before .before .before .before .struct-told3 .given .1 .1 .1 in
     let t = c .before .before .before .struct-told5 .given .1 .1 .1 in
@@ -22,7 +14,4 @@ returns c =
     ∙ same-judge _ _ _ _ _ _ _ _ _ _
     (parts-are (s .args .a) (record { sfits = a .0 .1 }) (record { sfits = a .1 .0 .1 }))
     (parts-are (s .args .b) (record { sfits = b .0 .1 }) (record { sfits = b .1 .0 .1 }))
-    (parts-are (s .args .c) (record { sfits = t .0 .1 }) (record { sfits = t .1 .0 .1 }))
-
-pub judge3-spec : {M : Type 1} → statement M
-judge3-spec = tie.close (tie.spec number-of-requires answer-of-requires returns)
+    (parts-are (s .args .c) (record { sfits = t .0 .1 }) (record { sfits = t .1 .0 .1 }))))

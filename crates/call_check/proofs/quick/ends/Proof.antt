@@ -1,13 +1,5 @@
 -- `ends` meets its contract: the sums are far below 2 ^ 64.
-use borrow.Author.Needs.{needs}
-use mathlib.Core.Path.{ap, _∙_}
-use Prim.Native.Nat.{_+_, _^_}
-use native.Mathlib.Omega.{arith}
-use lib.Dec.{ltb}
-use mir.Facts.{toZ-ofZ}
-use borrow.Author.Tests.{ltb-true}
-use Rattle.call_check.specs.Quick.{reach}
-use Rattle.call_check.proofs.Runs.{reach-le}
+use Rattle.call_check.proofs.Words.{needs, ap, _∙_, _+_, _^_, arith, ltb, toZ-ofZ, ltb-true, reach, reach-le}
 use Rattle.call_check.proofs.quick.ends.Statement.{statement}
 use Rattle.call_check.proofs.quick.ends.Tie as tie
 
@@ -17,20 +9,12 @@ reach-requires c κs = search needs
 reach-requires-2 : tie.Need-reach-requires-2
 reach-requires-2 c κs = search needs
 
-add-result : tie.Need-add-result
-add-result c =
-    record { fits = omega (arith, c .before .reach .ensures, c .reach2 .ensures, reach-le _ _ (reach-requires (c .before .before) tt), reach-le _ _ (reach-requires-2 (c .before) tt)) }
-
-add-result-2 : tie.Need-add-result-2
-add-result-2 c =
-    record { fits = omega (arith, c .before .reach .ensures, c .reach2 .ensures, ltb-true (c .before .before .args .start) (2 ^ 30) (c .before .before .pre .0), reach-le _ _ (reach-requires (c .before .before) tt), reach-le _ _ (reach-requires-2 (c .before) tt)) }
-
-returns : tie.Need-returns
-returns c =
-    let s = c .before .before in
+pub ends-spec : {M : Type 1} → statement M
+ends-spec = tie.close (tie.spec
+    reach-requires reach-requires-2
+    (λ c. record { fits = omega (arith, c .before .reach .ensures, c .reach2 .ensures, reach-le _ _ (reach-requires (c .before .before) tt), reach-le _ _ (reach-requires-2 (c .before) tt)) })
+    (λ c. record { fits = omega (arith, c .before .reach .ensures, c .reach2 .ensures, ltb-true (c .before .before .args .start) (2 ^ 30) (c .before .before .pre .0), reach-le _ _ (reach-requires (c .before .before) tt), reach-le _ _ (reach-requires-2 (c .before) tt)) })
+    (λ c. let s = c .before .before in
     let d = c .before .reach .ensures ∙ ap (reach (s .args .rows)) (toZ-ofZ (s .fits .rs)) in
     let e = c .reach2 .ensures ∙ ap (reach (s .args .cols)) (toZ-ofZ (s .fits .cs)) in
-    λ i. ltb (s .args .start + (d i + e i)) (s .args .len)
-
-pub ends-spec : {M : Type 1} → statement M
-ends-spec = tie.close (tie.spec reach-requires reach-requires-2 add-result add-result-2 returns)
+    λ i. ltb (s .args .start + (d i + e i)) (s .args .len)))

@@ -1,14 +1,5 @@
 -- `short` meets its contract. What the machine reads back from the bits of z is z.
-use mathlib.Core.Path.{_≡_, refl, ap, _∙_}
-use mathlib.Core.Bool.{true, false}
-use Prim.Native.Nat.{_^_}
-use lib.Dec.{ltb}
-use lib.IntN.{ℤ, pos, negsuc, natAbs}
-use lib.Signed.{ltZ}
-use mir.Facts.{toZ-ofZ, sfits-toZ, fits-ofZ}
-use Rattle.view.proofs.AnyLaws.{clash}
-use Rattle.view_check.proofs.Strides.{up-cast, not-below-zero}
-use Rattle.call_check.specs.Quick.{short}
+use Rattle.call_check.proofs.Words.{_≡_, refl, ap, _∙_, true, false, _^_, ltb, ℤ, pos, negsuc, natAbs, ltZ, toZ-ofZ, sfits-toZ, fits-ofZ, clash, up-cast, not-below-zero, short}
 use Rattle.call_check.proofs.quick.short.Statement.{statement}
 use Rattle.call_check.proofs.quick.short.Tie as tie
 
@@ -22,14 +13,7 @@ unfolding short
 natural (pos n) h = refl
 natural (negsuc n) h = absurd (clash refl h)
 
-cast-result : tie.Need-cast-result
-cast-result c = up-cast _ (sfits-toZ (fits-ofZ (c .before .fits .z))) (c .if1 .left)
-
-returns : tie.Need-returns
-returns c = negative _ (c .if1 .taken) ∙ ap short (toZ-ofZ (c .before .fits .z))
-
-returns-2 : tie.Need-returns-2
-returns-2 c = natural _ (c .if1 .left) ∙ ap short (toZ-ofZ (c .before .fits .z))
-
 pub short-spec : {M : Type 1} → statement M
-short-spec = tie.close (tie.spec cast-result returns returns-2)
+short-spec = tie.close (tie.spec
+    (λ c. up-cast _ (sfits-toZ (fits-ofZ (c .before .fits .z))) (c .if1 .left))
+    (λ c. negative _ (c .if1 .taken) ∙ ap short (toZ-ofZ (c .before .fits .z))) (λ c. natural _ (c .if1 .left) ∙ ap short (toZ-ofZ (c .before .fits .z))))

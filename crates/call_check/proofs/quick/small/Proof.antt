@@ -1,7 +1,5 @@
 -- `small` meets its contract, by those of its parts.
-use borrow.Author.Needs.{needs}
-use Rattle.call_check.specs.Quick.{small}
-use Rattle.call_check.proofs.Runs.{ways}
+use Rattle.call_check.proofs.Words.{needs, small, ways}
 use Rattle.call_check.proofs.quick.small.Statement.{statement}
 use Rattle.call_check.proofs.quick.small.Tie as tie
 

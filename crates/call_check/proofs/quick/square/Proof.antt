@@ -1,7 +1,5 @@
 -- `square` meets its contract, by those of its parts.
-use borrow.Author.Needs.{needs}
-use Rattle.call_check.specs.Quick.{square}
-use Rattle.call_check.proofs.Runs.{ways}
+use Rattle.call_check.proofs.Words.{needs, square, ways}
 use Rattle.call_check.proofs.quick.square.Statement.{statement}
 use Rattle.call_check.proofs.quick.square.Tie as tie
 

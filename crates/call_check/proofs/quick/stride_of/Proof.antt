@@ -1,17 +1,5 @@
 -- `stride_of` meets its contract: each way out is one of the definition's cases.
-use mathlib.Core.Path.{_≡_, _∙_}
-use mathlib.Core.Bool.{true, false}
-use Prim.Native.Nat.{ℕ}
-use native.Mathlib.Omega.{arith}
-use lib.Dec.{eqb}
-use lib.IntN.{negsuc}
-use mir.Facts.{toZ-ofZ}
-use borrow.Author.Tests.{eq-eqb}
-use Rattle.view.specs.declared.View.{View}
-use Rattle.view.proofs.AnyLaws.{and-both, is-false}
-use Rattle.view.specs.Checks.{shaped}
-use Rattle.view.proofs.JudgeLaws.{shaped-sizes}
-use Rattle.call_check.specs.Quick.{strideOf}
+use Rattle.call_check.proofs.Words.{_≡_, _∙_, true, false, ℕ, arith, eqb, negsuc, toZ-ofZ, eq-eqb, View, and-both, is-false, shaped, shaped-sizes, strideOf}
 use Rattle.call_check.proofs.quick.stride_of.Statement.{statement}
 use Rattle.call_check.proofs.quick.stride_of.Tie as tie
 
@@ -33,23 +21,10 @@ neither : (v : View) (n : ℕ) → (v .rows ≡ n → v .cols ≡ 1 → ⊥) →
 unfolding strideOf
 neither v n f g = rw (not-shaped v n 1 f, not-shaped v 1 n g)
 
-returns : tie.Need-returns
-returns c =
-    toZ-ofZ (record { sfits = c .struct-told .given .1 .1 .1 .0 .1 }) ∙ column _ _ (c .before .before .before .if1 .taken) (c .before .if2 .taken)
-
-returns-2 : tie.Need-returns-2
-returns-2 c = neither _ _ (λ p q. c .if2 .left p) (λ p q. c .if2 .left (omega arith))
-
-returns-3 : tie.Need-returns-3
-returns-3 c =
-    toZ-ofZ (record { sfits = c .struct-told2 .given .1 .1 .1 .1 .0 .1 })
-    ∙ row _ _ (c .before .before .before .before .before .if1 .left) (c .before .before .before .if3 .taken) (c .before .if4 .taken)
-
-returns-4 : tie.Need-returns-4
-returns-4 c = neither _ _ (λ p q. c .before .before .before .before .if1 .left q) (λ p q. c .if4 .left q)
-
-returns-5 : tie.Need-returns-5
-returns-5 c = neither _ _ (λ p q. c .before .before .if1 .left q) (λ p q. c .if3 .left p)
-
 pub stride-of-spec : {M : Type 1} → statement M
-stride-of-spec = tie.close (tie.spec returns returns-2 returns-3 returns-4 returns-5)
+stride-of-spec = tie.close (tie.spec
+    (λ c. toZ-ofZ (record { sfits = c .struct-told .given .1 .1 .1 .0 .1 }) ∙ column _ _ (c .before .before .before .if1 .taken) (c .before .if2 .taken))
+    (λ c. neither _ _ (λ p q. c .if2 .left p) (λ p q. c .if2 .left (omega arith)))
+    (λ c. toZ-ofZ (record { sfits = c .struct-told2 .given .1 .1 .1 .1 .0 .1 }) ∙ row _ _ (c .before .before .before .before .before .if1 .left) (c .before .before .before .if3 .taken) (c .before .if4 .taken))
+    (λ c. neither _ _ (λ p q. c .before .before .before .before .if1 .left q) (λ p q. c .if4 .left q))
+    (λ c. neither _ _ (λ p q. c .before .before .if1 .left q) (λ p q. c .if3 .left p)))

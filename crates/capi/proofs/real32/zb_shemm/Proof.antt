@@ -1,47 +1,9 @@
-use borrow.Author.Needs.{needs}
-use Rattle.number.specs.Kind.{real32}
+use Rattle.capi.proofs.Words.{needs, real32, called, refused, view-is}
 use Rattle.capi.proofs.real32.zb_shemm.Statement.{statement}
 use Rattle.capi.proofs.real32.zb_shemm.Tie as tie
-use Rattle.capi.proofs.Laws.{called, refused, view-is}
-
-view-of-requires : tie.Need-view-of-requires
-view-of-requires c κs = tt
-
-view-of-requires-2 : tie.Need-view-of-requires-2
-view-of-requires-2 c κs = tt
-
-view-of-requires-3 : tie.Need-view-of-requires-3
-view-of-requires-3 c κs = tt
-
-is-side-uplo-requires : tie.Need-is-side-uplo-requires
-is-side-uplo-requires c κs = tt
-
-side-of-requires : tie.Need-side-of-requires
-side-of-requires c κs = tt
-
-uplo-of-requires : tie.Need-uplo-of-requires
-uplo-of-requires c κs = tt
-
-hemm-requires : tie.Need-hemm-requires
-hemm-requires c κs = tt
-
-number-requires : tie.Need-number-requires
-number-requires c κs = tt
-
-refuse3-requires : tie.Need-refuse3-requires
-refuse3-requires c κs = tt
-
-number-requires-2 : tie.Need-number-requires-2
-number-requires-2 c κs = tt
-
-same-length : tie.Need-same-length
-same-length c = search needs
-
-returns : tie.Need-returns
-returns c = called real32 _ _ _ _ _ (c .before .before .before .before .before .before .before .before .is-side-uplo .ensures) (c .before .before .before .before .before .before .before .if1 .taken) _ _ _ (rw (c .before .before .before .before .before .before .side-of .ensures, c .before .before .before .before .before .uplo-of .ensures, view-is _ _ _ _ _ _ (c .before .before .before .before .before .before .before .before .before .before .before .before .before .before .before .fits .ars) (c .before .before .before .before .before .before .before .before .before .before .before .before .before .before .before .fits .acs) (c .before .before .before .before .before .before .before .before .before .before .before .view-of .ensures), view-is _ _ _ _ _ _ (c .before .before .before .before .before .before .before .before .before .before .before .before .before .before .before .fits .brs) (c .before .before .before .before .before .before .before .before .before .before .before .before .before .before .before .fits .bcs) (c .before .before .before .before .before .before .before .before .before .before .view-of2 .ensures), view-is _ _ _ _ _ _ (c .before .before .before .before .before .before .before .before .before .before .before .before .before .before .before .fits .crs) (c .before .before .before .before .before .before .before .before .before .before .before .before .before .before .before .fits .ccs) (c .before .before .before .before .before .before .before .before .before .view-of3 .ensures)) at (c .before .before .before .hemm .ensures)) (c .number .ensures)
-
-returns-2 : tie.Need-returns-2
-returns-2 c = refused real32 _ _ _ _ _ (c .before .before .before .is-side-uplo .ensures) (c .before .before .if1 .left) _ _ (rw (view-is _ _ _ _ _ _ (c .before .before .before .before .before .before .before .before .before .before .fits .ars) (c .before .before .before .before .before .before .before .before .before .before .fits .acs) (c .before .before .before .before .before .before .view-of .ensures), view-is _ _ _ _ _ _ (c .before .before .before .before .before .before .before .before .before .before .fits .brs) (c .before .before .before .before .before .before .before .before .before .before .fits .bcs) (c .before .before .before .before .before .view-of2 .ensures), view-is _ _ _ _ _ _ (c .before .before .before .before .before .before .before .before .before .before .fits .crs) (c .before .before .before .before .before .before .before .before .before .before .fits .ccs) (c .before .before .before .before .view-of3 .ensures)) at (c .before .refuse3 .ensures)) (c .number2 .ensures)
 
 pub zb-shemm-spec : {M : Type 1} → statement M
-zb-shemm-spec = tie.close (tie.spec view-of-requires view-of-requires-2 view-of-requires-3 is-side-uplo-requires side-of-requires uplo-of-requires hemm-requires number-requires refuse3-requires number-requires-2 same-length returns returns-2)
+zb-shemm-spec = tie.close (tie.spec
+    (λ c κs. tt) (λ c κs. tt) (λ c κs. tt) (λ c κs. tt) (λ c κs. tt) (λ c κs. tt) (λ c κs. tt) (λ c κs. tt) (λ c κs. tt) (λ c κs. tt) (λ c. search needs)
+    (λ c. called real32 _ _ _ _ _ (c .before .before .before .before .before .before .before .before .is-side-uplo .ensures) (c .before .before .before .before .before .before .before .if1 .taken) _ _ _ (rw (c .before .before .before .before .before .before .side-of .ensures, c .before .before .before .before .before .uplo-of .ensures, view-is _ _ _ _ _ _ (c .before .before .before .before .before .before .before .before .before .before .before .before .before .before .before .fits .ars) (c .before .before .before .before .before .before .before .before .before .before .before .before .before .before .before .fits .acs) (c .before .before .before .before .before .before .before .before .before .before .before .view-of .ensures), view-is _ _ _ _ _ _ (c .before .before .before .before .before .before .before .before .before .before .before .before .before .before .before .fits .brs) (c .before .before .before .before .before .before .before .before .before .before .before .before .before .before .before .fits .bcs) (c .before .before .before .before .before .before .before .before .before .before .view-of2 .ensures), view-is _ _ _ _ _ _ (c .before .before .before .before .before .before .before .before .before .before .before .before .before .before .before .fits .crs) (c .before .before .before .before .before .before .before .before .before .before .before .before .before .before .before .fits .ccs) (c .before .before .before .before .before .before .before .before .before .view-of3 .ensures)) at (c .before .before .before .hemm .ensures)) (c .number .ensures))
+    (λ c. refused real32 _ _ _ _ _ (c .before .before .before .is-side-uplo .ensures) (c .before .before .if1 .left) _ _ (rw (view-is _ _ _ _ _ _ (c .before .before .before .before .before .before .before .before .before .before .fits .ars) (c .before .before .before .before .before .before .before .before .before .before .fits .acs) (c .before .before .before .before .before .before .view-of .ensures), view-is _ _ _ _ _ _ (c .before .before .before .before .before .before .before .before .before .before .fits .brs) (c .before .before .before .before .before .before .before .before .before .before .fits .bcs) (c .before .before .before .before .before .view-of2 .ensures), view-is _ _ _ _ _ _ (c .before .before .before .before .before .before .before .before .before .before .fits .crs) (c .before .before .before .before .before .before .before .before .before .before .fits .ccs) (c .before .before .before .before .view-of3 .ensures)) at (c .before .refuse3 .ensures)) (c .number2 .ensures)))

@@ -1,44 +1,9 @@
-use borrow.Author.Needs.{needs}
-use Rattle.number.specs.Kind.{real64}
+use Rattle.capi.proofs.Words.{needs, real64, called, refused, view-is}
 use Rattle.capi.proofs.real64.zb_dsyrk.Statement.{statement}
 use Rattle.capi.proofs.real64.zb_dsyrk.Tie as tie
-use Rattle.capi.proofs.Laws.{called, refused, view-is}
-
-view-of-requires : tie.Need-view-of-requires
-view-of-requires c κs = tt
-
-view-of-requires-2 : tie.Need-view-of-requires-2
-view-of-requires-2 c κs = tt
-
-is-uplo-trans-requires : tie.Need-is-uplo-trans-requires
-is-uplo-trans-requires c κs = tt
-
-uplo-of-requires : tie.Need-uplo-of-requires
-uplo-of-requires c κs = tt
-
-trans-of-requires : tie.Need-trans-of-requires
-trans-of-requires c κs = tt
-
-syrk-requires : tie.Need-syrk-requires
-syrk-requires c κs = tt
-
-number-requires : tie.Need-number-requires
-number-requires c κs = tt
-
-refuse2-requires : tie.Need-refuse2-requires
-refuse2-requires c κs = tt
-
-number-requires-2 : tie.Need-number-requires-2
-number-requires-2 c κs = tt
-
-same-length : tie.Need-same-length
-same-length c = search needs
-
-returns : tie.Need-returns
-returns c = called real64 _ _ _ _ _ (c .before .before .before .before .before .before .before .before .is-uplo-trans .ensures) (c .before .before .before .before .before .before .before .if1 .taken) _ _ _ (rw (c .before .before .before .before .before .before .uplo-of .ensures, c .before .before .before .before .before .trans-of .ensures, view-is _ _ _ _ _ _ (c .before .before .before .before .before .before .before .before .before .before .before .before .before .fits .ars) (c .before .before .before .before .before .before .before .before .before .before .before .before .before .fits .acs) (c .before .before .before .before .before .before .before .before .before .before .view-of .ensures), view-is _ _ _ _ _ _ (c .before .before .before .before .before .before .before .before .before .before .before .before .before .fits .crs) (c .before .before .before .before .before .before .before .before .before .before .before .before .before .fits .ccs) (c .before .before .before .before .before .before .before .before .before .view-of2 .ensures)) at (c .before .before .before .syrk .ensures)) (c .number .ensures)
-
-returns-2 : tie.Need-returns-2
-returns-2 c = refused real64 _ _ _ _ _ (c .before .before .before .is-uplo-trans .ensures) (c .before .before .if1 .left) _ _ (rw (view-is _ _ _ _ _ _ (c .before .before .before .before .before .before .before .before .fits .ars) (c .before .before .before .before .before .before .before .before .fits .acs) (c .before .before .before .before .before .view-of .ensures), view-is _ _ _ _ _ _ (c .before .before .before .before .before .before .before .before .fits .crs) (c .before .before .before .before .before .before .before .before .fits .ccs) (c .before .before .before .before .view-of2 .ensures)) at (c .before .refuse2 .ensures)) (c .number2 .ensures)
 
 pub zb-dsyrk-spec : {M : Type 1} → statement M
-zb-dsyrk-spec = tie.close (tie.spec view-of-requires view-of-requires-2 is-uplo-trans-requires uplo-of-requires trans-of-requires syrk-requires number-requires refuse2-requires number-requires-2 same-length returns returns-2)
+zb-dsyrk-spec = tie.close (tie.spec
+    (λ c κs. tt) (λ c κs. tt) (λ c κs. tt) (λ c κs. tt) (λ c κs. tt) (λ c κs. tt) (λ c κs. tt) (λ c κs. tt) (λ c κs. tt) (λ c. search needs)
+    (λ c. called real64 _ _ _ _ _ (c .before .before .before .before .before .before .before .before .is-uplo-trans .ensures) (c .before .before .before .before .before .before .before .if1 .taken) _ _ _ (rw (c .before .before .before .before .before .before .uplo-of .ensures, c .before .before .before .before .before .trans-of .ensures, view-is _ _ _ _ _ _ (c .before .before .before .before .before .before .before .before .before .before .before .before .before .fits .ars) (c .before .before .before .before .before .before .before .before .before .before .before .before .before .fits .acs) (c .before .before .before .before .before .before .before .before .before .before .view-of .ensures), view-is _ _ _ _ _ _ (c .before .before .before .before .before .before .before .before .before .before .before .before .before .fits .crs) (c .before .before .before .before .before .before .before .before .before .before .before .before .before .fits .ccs) (c .before .before .before .before .before .before .before .before .before .view-of2 .ensures)) at (c .before .before .before .syrk .ensures)) (c .number .ensures))
+    (λ c. refused real64 _ _ _ _ _ (c .before .before .before .is-uplo-trans .ensures) (c .before .before .if1 .left) _ _ (rw (view-is _ _ _ _ _ _ (c .before .before .before .before .before .before .before .before .fits .ars) (c .before .before .before .before .before .before .before .before .fits .acs) (c .before .before .before .before .before .view-of .ensures), view-is _ _ _ _ _ _ (c .before .before .before .before .before .before .before .before .fits .crs) (c .before .before .before .before .before .before .before .before .fits .ccs) (c .before .before .before .before .view-of2 .ensures)) at (c .before .refuse2 .ensures)) (c .number2 .ensures)))

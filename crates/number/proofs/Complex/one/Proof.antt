@@ -1,6 +1,5 @@
 -- `one` meets its contract: the literals are 1 and +0.
-use lib.Ieee.{binary64}
-use Rattle.number.proofs.Literals.{zero-literal, one-literal64}
+use Rattle.number.proofs.Words.{binary64, zero-literal, one-literal64}
 use Rattle.number.proofs.Complex.one.Statement.{statement}
 use Rattle.number.proofs.Complex.one.Tie as tie
 

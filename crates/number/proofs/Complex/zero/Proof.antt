@@ -1,6 +1,5 @@
 -- `zero` meets its contract: both literals are +0.
-use lib.Ieee.{binary64}
-use Rattle.number.proofs.Literals.{zero-literal}
+use Rattle.number.proofs.Words.{binary64, zero-literal}
 use Rattle.number.proofs.Complex.zero.Statement.{statement}
 use Rattle.number.proofs.Complex.zero.Tie as tie
 

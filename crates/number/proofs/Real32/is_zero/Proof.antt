@@ -1,10 +1,6 @@
-use lib.Ieee.{binary32}
-use Rattle.number.proofs.Literals.{zero-literal}
+use Rattle.number.proofs.Words.{binary32, zero-literal}
 use Rattle.number.proofs.Real32.is_zero.Statement.{statement}
 use Rattle.number.proofs.Real32.is_zero.Tie as tie
 
-returns : tie.Need-returns
-returns c = rw (zero-literal binary32)
-
 pub is-zero-spec : {M : Type 1} → statement M
-is-zero-spec = tie.close (tie.spec returns)
+is-zero-spec = tie.close (tie.spec (λ c. rw (zero-literal binary32)))

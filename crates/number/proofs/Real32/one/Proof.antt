@@ -1,5 +1,5 @@
 -- `one` meets its contract: the literal 1.0 is ONE.
-use Rattle.number.proofs.Literals.{one-literal32}
+use Rattle.number.proofs.Words.{one-literal32}
 use Rattle.number.proofs.Real32.one.Statement.{statement}
 use Rattle.number.proofs.Real32.one.Tie as tie
 

@@ -1,5 +1,5 @@
 -- `one` meets its contract: the literal 1.0 is ONE.
-use Rattle.number.proofs.Literals.{one-literal64}
+use Rattle.number.proofs.Words.{one-literal64}
 use Rattle.number.proofs.Real64.one.Statement.{statement}
 use Rattle.number.proofs.Real64.one.Tie as tie
 

@@ -1,6 +1,5 @@
 -- `zero` meets its contract: the literal 0.0 is ZERO.
-use lib.Ieee.{binary64}
-use Rattle.number.proofs.Literals.{zero-literal}
+use Rattle.number.proofs.Words.{binary64, zero-literal}
 use Rattle.number.proofs.Real64.zero.Statement.{statement}
 use Rattle.number.proofs.Real64.zero.Tie as tie
 

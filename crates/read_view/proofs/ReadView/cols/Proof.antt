@@ -1,13 +1,8 @@
 -- `ReadView::cols` meets its contract: the walk of `Sizes`, to `view::cols`.
-use mathlib.Core.Path.{refl}
-use contract.Running.{givenOf, tables, tablesOf}
-use denote.Triple.Spec.{tripleOf}
-use denote.Triple.Table.{entered, cited}
-use Rattle.view.specs.declared.View.{View}
+use Rattle.read_view.proofs.Words.{refl, givenOf, tables, tablesOf, tripleOf, entered, cited, View, sized-meets}
 use Rattle.view.proofs.cols as ask
 use Rattle.view.proofs.cols.Symbol as ask-def
 use Rattle.view.proofs.cols.Met as ask-thm
-use Rattle.read_view.proofs.Sizes.{sized-meets}
 use Rattle.read_view.proofs.ReadView.cols.Key as cols-key
 use Rattle.read_view.proofs.ReadView.cols as cols
 use Rattle.read_view.proofs.ReadView.cols.Statement as stated

@@ -1,14 +1,8 @@
 -- `ReadView::get` meets its contract: the walk of `Apart`, to `find`.
-use Rattle.number.specs.Kind.{real64}
-use mathlib.Core.Path.{refl}
-use contract.Running.{givenOf, tables, tablesOf}
+use Rattle.read_view.proofs.Words.{real64, refl, givenOf, tables, tablesOf, tripleOf, entered, cited, foundOutcome, readOutcome, apart-meets}
 use denote.Enum.Laws as EL
-use denote.Triple.Spec.{tripleOf}
-use denote.Triple.Table.{entered, cited}
-use Rattle.read_view.specs.Read.{foundOutcome, readOutcome}
 use Rattle.read_view.proofs.Found as S
 use Rattle.read_view.proofs.Found.Laws as S′
-use Rattle.read_view.proofs.Apart.{apart-meets}
 use Rattle.read_view.proofs.find as find
 use Rattle.read_view.proofs.find.Symbol as find-def
 use Rattle.read_view.proofs.find.Met as find-thm

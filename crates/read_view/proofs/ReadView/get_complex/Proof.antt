@@ -1,14 +1,8 @@
 -- `ReadView::get_complex` meets its contract: the walk of `Apart`, to `find_complex`.
-use Rattle.number.specs.Kind.{complex}
-use mathlib.Core.Path.{refl}
-use contract.Running.{givenOf, tables, tablesOf}
+use Rattle.read_view.proofs.Words.{complex, refl, givenOf, tables, tablesOf, tripleOf, entered, cited, foundComplexOutcome, readOutcome, apart-meets}
 use denote.Enum.Laws as EL
-use denote.Triple.Spec.{tripleOf}
-use denote.Triple.Table.{entered, cited}
-use Rattle.read_view.specs.Read.{foundComplexOutcome, readOutcome}
 use Rattle.read_view.proofs.FoundComplex as S
 use Rattle.read_view.proofs.FoundComplex.Laws as S′
-use Rattle.read_view.proofs.Apart.{apart-meets}
 use Rattle.read_view.proofs.find_complex as find
 use Rattle.read_view.proofs.find_complex.Symbol as find-def
 use Rattle.read_view.proofs.find_complex.Met as find-thm

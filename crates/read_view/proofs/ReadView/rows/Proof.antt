@@ -1,13 +1,8 @@
 -- `ReadView::rows` meets its contract: the walk of `Sizes`, to `view::rows`.
-use mathlib.Core.Path.{refl}
-use contract.Running.{givenOf, tables, tablesOf}
-use denote.Triple.Spec.{tripleOf}
-use denote.Triple.Table.{entered, cited}
-use Rattle.view.specs.declared.View.{View}
+use Rattle.read_view.proofs.Words.{refl, givenOf, tables, tablesOf, tripleOf, entered, cited, View, sized-meets}
 use Rattle.view.proofs.rows as ask
 use Rattle.view.proofs.rows.Symbol as ask-def
 use Rattle.view.proofs.rows.Met as ask-thm
-use Rattle.read_view.proofs.Sizes.{sized-meets}
 use Rattle.read_view.proofs.ReadView.rows.Key as rows-key
 use Rattle.read_view.proofs.ReadView.rows as rows
 use Rattle.read_view.proofs.ReadView.rows.Statement as stated

@@ -1,30 +1,10 @@
 -- `byte_after` reads its byte, or 0 past the end.
-use Prim.Native.Nat.{_+_}
-use mathlib.Core.Path.{sym}
-use lib.ListN.{List·getD-eq-default}
-use native.Mathlib.Omega.{arith}
-use borrow.Author.Needs.{needs}
+use Rattle.recorded_calls.proofs.Words.{_+_, sym, List·getD-eq-default, arith, needs}
 use Rattle.recorded_calls.proofs.bytes.byte_after.Statement.{statement}
 use Rattle.recorded_calls.proofs.bytes.byte_after.Tie as tie
 
-sub-if2 : tie.Need-sub-if2
-sub-if2 c = search needs
-
-add-result : tie.Need-add-result
-add-result c = search needs
-
-shared-slice-read-result : tie.Need-shared-slice-read-result
-shared-slice-read-result c = search needs
-
-returns : tie.Need-returns
-returns c = search needs
-
-returns-2 : tie.Need-returns-2
-returns-2 c = let a = c .before .before .args in sym (List·getD-eq-default (a .s .now) 0 {n = a .at + a .k} (omega arith))
-
-returns-3 : tie.Need-returns-3
-returns-3 c = let a = c .before .args in sym (List·getD-eq-default (a .s .now) 0 {n = a .at + a .k} (omega arith))
-
 pub byte-after-spec : {M : Type 1} → statement M
-byte-after-spec =
-    tie.close (tie.spec sub-if2 add-result shared-slice-read-result returns returns-2 returns-3)
+byte-after-spec = tie.close (tie.spec
+    (λ c. search needs) (λ c. search needs) (λ c. search needs) (λ c. search needs)
+    (λ c. let a = c .before .before .args in sym (List·getD-eq-default (a .s .now) 0 {n = a .at + a .k} (omega arith)))
+    (λ c. let a = c .before .args in sym (List·getD-eq-default (a .s .now) 0 {n = a .at + a .k} (omega arith))))

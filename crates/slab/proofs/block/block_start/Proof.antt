@@ -1,5 +1,5 @@
 -- From column j on where w are left, else the last w.
-use native.Mathlib.Omega.{arith}
+use Rattle.slab.proofs.Words.{arith}
 use Rattle.slab.proofs.block.block_start.Statement.{statement}
 use Rattle.slab.proofs.block.block_start.Tie as tie
 

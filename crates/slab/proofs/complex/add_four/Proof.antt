@@ -1,13 +1,5 @@
 -- Each sum in its turn (EightLaws).
-use Prim.Native.Nat.{ℕ, _+_, _-_, _/_}
-use mathlib.Core.Path.{ap, _∙_}
-use native.Mathlib.Omega.{arith}
-use lib.Ieee.{binary64}
-use borrow.Kind.Array.{good-length, eFloat}
-use Rattle.number.specs.Kind.{complex}
-use Rattle.number.proofs.SlabLaws.{complex-slab}
-use Rattle.slab.specs.Run.{elemConj}
-use Rattle.slab.proofs.EightLaws.{PartOf, part-start, part-next, part-end}
+use Rattle.slab.proofs.Words.{ℕ, _+_, _-_, _/_, ap, _∙_, arith, binary64, good-length, eFloat, complex, complex-slab, elemConj, PartOf, part-start, part-next, part-end}
 use Rattle.slab.proofs.complex.add_four.Statement.{statement}
 use Rattle.slab.proofs.complex.add_four.Tie as tie
 

@@ -1,6 +1,5 @@
 -- The flag is matched.
-use mathlib.Core.Path.{_∙_, ap}
-use Rattle.number.specs.Kind.{complex}
+use Rattle.slab.proofs.Words.{_∙_, ap, complex}
 use Rattle.slab.proofs.complex.elem_conj.Statement.{statement}
 use Rattle.slab.proofs.complex.elem_conj.Tie as tie
 

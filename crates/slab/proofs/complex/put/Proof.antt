@@ -1,6 +1,4 @@
-use native.Mathlib.Omega.{arith}
-use lib.ListN.{length-set}
-use borrow.Author.Needs.{needs}
+use Rattle.slab.proofs.Words.{arith, length-set, needs}
 use Rattle.slab.proofs.complex.put.Statement.{statement}
 use Rattle.slab.proofs.complex.put.Tie as tie
 

@@ -1,5 +1,4 @@
-use native.Mathlib.Omega.{arith}
-use Rattle.slab.proofs.Shown.{shown, inside}
+use Rattle.slab.proofs.Words.{arith, shown, inside}
 use Rattle.slab.proofs.real32.elem.Statement.{statement}
 use Rattle.slab.proofs.real32.elem.Tie as tie
 

@@ -1,6 +1,5 @@
 -- The flag is matched.
-use mathlib.Core.Path.{_∙_, ap}
-use Rattle.number.specs.Kind.{real32}
+use Rattle.slab.proofs.Words.{_∙_, ap, real32}
 use Rattle.slab.proofs.real32.elem_conj.Statement.{statement}
 use Rattle.slab.proofs.real32.elem_conj.Tie as tie
 

@@ -1,13 +1,5 @@
 -- Each sum in its turn (EightLaws).
-use Prim.Native.Nat.{_+_, _-_}
-use mathlib.Core.Path.{ap, _∙_}
-use native.Mathlib.Omega.{arith}
-use lib.Ieee.{binary32}
-use borrow.Kind.Array.{good-length, eFloat}
-use Rattle.number.specs.Kind.{real32}
-use Rattle.number.proofs.SlabLaws.{real-slab}
-use Rattle.slab.specs.Elem.{elem}
-use Rattle.slab.proofs.EightLaws.{Part, part-start, part-next, part-end}
+use Rattle.slab.proofs.Words.{_+_, _-_, ap, _∙_, arith, binary32, good-length, eFloat, real32, real-slab, elem, Part, part-start, part-next, part-end}
 use Rattle.slab.proofs.real32.plus_eight.Statement.{statement}
 use Rattle.slab.proofs.real32.plus_eight.Tie as tie
 

@@ -1,9 +1,5 @@
 -- Eight times the literal 0.0, which is ZERO.
-use mathlib.Core.Path.{ap}
-use lib.Ieee.{binary32}
-use Rattle.number.specs.Kind.{real32}
-use Rattle.number.proofs.Literals.{zero-literal}
-use Rattle.slab.proofs.EightLaws.{eight-of, eight-same}
+use Rattle.slab.proofs.Words.{binary32, real32, zero-literal, eight-of, eight-same}
 use Rattle.slab.proofs.real32.zeros.Statement.{statement}
 use Rattle.slab.proofs.real32.zeros.Tie as tie
 

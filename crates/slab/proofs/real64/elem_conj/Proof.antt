@@ -1,6 +1,5 @@
 -- The flag is matched.
-use mathlib.Core.Path.{_∙_, ap}
-use Rattle.number.specs.Kind.{real64}
+use Rattle.slab.proofs.Words.{_∙_, ap, real64}
 use Rattle.slab.proofs.real64.elem_conj.Statement.{statement}
 use Rattle.slab.proofs.real64.elem_conj.Tie as tie
 

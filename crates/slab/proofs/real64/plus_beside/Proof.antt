@@ -1,12 +1,5 @@
 -- Each sum in its turn (EightLaws).
-use Prim.Native.Nat.{_+_, _-_}
-use mathlib.Core.Path.{ap, _∙_}
-use native.Mathlib.Omega.{arith}
-use lib.Ieee.{binary64}
-use borrow.Kind.Array.{good-length, eFloat}
-use Rattle.number.specs.Kind.{real64}
-use Rattle.number.proofs.SlabLaws.{real-slab}
-use Rattle.slab.proofs.EightLaws.{Part, part-start, part-next, part-end}
+use Rattle.slab.proofs.Words.{_+_, _-_, ap, _∙_, arith, binary64, good-length, eFloat, real64, real-slab, Part, part-start, part-next, part-end}
 use Rattle.slab.proofs.real64.plus_beside.Statement.{statement}
 use Rattle.slab.proofs.real64.plus_beside.Tie as tie
 

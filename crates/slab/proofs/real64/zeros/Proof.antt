@@ -1,9 +1,5 @@
 -- Eight times the literal 0.0, which is ZERO.
-use mathlib.Core.Path.{ap}
-use lib.Ieee.{binary64}
-use Rattle.number.specs.Kind.{real64}
-use Rattle.number.proofs.Literals.{zero-literal}
-use Rattle.slab.proofs.EightLaws.{eight-of, eight-same}
+use Rattle.slab.proofs.Words.{binary64, real64, zero-literal, eight-of, eight-same}
 use Rattle.slab.proofs.real64.zeros.Statement.{statement}
 use Rattle.slab.proofs.real64.zeros.Tie as tie
 

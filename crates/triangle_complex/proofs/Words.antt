@@ -1,0 +1,35 @@
+-- The names that the proofs of this crate use.
+pub use Prim.Native.Nat.{_-_, _/_, _<_, _≤_, ℕ}
+pub use mathlib.Core.Path.{_∙_, _≡_, ap, refl, subst, sym}
+pub use native.Mathlib.Omega.{arith}
+pub use lib.Ieee.{binary64}
+pub use lib.ListN.{length}
+pub use denote.Ref.{now}
+pub use borrow.Author.Needs.{needs}
+pub use Rattle.blas.specs.Substitution.{minusTerms}
+pub use Rattle.number.proofs.Commutes.{complex-commutes}
+pub use Rattle.number.proofs.Instances.{complex-laws}
+pub use Rattle.number.proofs.Literals.{one-literal64, zero-literal}
+pub use Rattle.number.specs.Kind.{complex}
+pub use Rattle.slab.proofs.LoopLaws.{row-last, row-next, rows-last, rows-next}
+pub use Rattle.slab.proofs.Shown.{inside, shown}
+pub use Rattle.slab.specs.Elem.{elem}
+pub use Rattle.slab.specs.Run.{elemConj, plusTerms}
+pub use Rattle.slab.specs.Update.{everywhere}
+unfoldable pub use Rattle.slab.specs.Update.{updateOne, updateRow, updateRows}
+pub use Rattle.triangle_plan.proofs.InOrder.{complex-swaps}
+pub use Rattle.triangle_plan.proofs.Judged.{matrix-runs, vector-passed, vector-runs}
+pub use Rattle.triangle_plan.proofs.LineSums.{sum-before, sum-behind}
+pub use Rattle.triangle_plan.proofs.Multiplies.{multiply-one-is}
+pub use Rattle.triangle_plan.proofs.ProductKernels.{trmm-done, trmm-refused, trmv-done, trmv-refused}
+pub use Rattle.triangle_plan.proofs.Runs.{minus-done, minus-first, minus-on, plus-done, plus-first, plus-on, run-end, span-left, span-right}
+pub use Rattle.triangle_plan.proofs.SolveKernels.{sided-gives, trsm-done, trsm-refused, trsv-done, trsv-refused}
+pub use Rattle.triangle_plan.proofs.Solves.{Clear, clear-next, clear-start, first-found, first-nowhere, lines-in, lines-solved, meets-is, solve-one-is, solved-gives, unknowns-in, vector-done, vector-stopped}
+pub use Rattle.triangle_plan.proofs.Systems.{in-row, one-line, pivot-shown, ready-for, ready-kept, ready-made, row-in, run-spans, unknown-shown, weighed}
+pub use Rattle.triangle_plan.proofs.WalkLaws.{walk-end, walk-next, walk-start}
+pub use Rattle.triangle_plan.specs.Multiply.{multiplyAll, multiplyLine}
+pub use Rattle.triangle_plan.specs.Solve.{solveAcross, solveUnknown, zeroAfter}
+pub use Rattle.triangle_plan.specs.Triangles.{timesIf}
+pub use Rattle.triangle_plan.specs.Walk.{walk}
+pub use Rattle.triangle_plan.specs.declared.System.{System}
+pub use Rattle.view.specs.declared.Side.the-variants.{Left}
