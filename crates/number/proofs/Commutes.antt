@@ -1,4 +1,4 @@
--- A product is the same in either order of its operands.
+-- What real kinds have beside the laws of every kind: a product is the same in either order of its operands, and a number is its own conjugate.
 use Prim.Native.Nat.{ℕ, _+_, _*_, _-_, _<_, _≤_}
 use mathlib.Core.Bool.{Bool, true, false, cond, _&&_}
 use mathlib.Core.Path.{_≡_, refl, ap, sym, _∙_}
@@ -12,6 +12,9 @@ use Rattle.number.specs.Kind.{Kind, real, complex}
 
 pub record Commutes (K : Kind) : Type 0 where
   pub commutes : (x y : K .Elem) → K .mul x y ≡ K .mul y x
+
+pub record SelfConjugate (K : Kind) : Type 0 where
+  pub own : (x : K .Elem) → K .conj x ≡ x
 
 -- ---- floats
 
@@ -76,6 +79,9 @@ add-either f (fin s m e) (fin t n d) =
 
 pub real-commutes : (f : Format) → Commutes (real f)
 real-commutes f = record { commutes = mul-either f }
+
+pub real-self-conjugate : (f : Format) → SelfConjugate (real f)
+real-self-conjugate f = record { own = λ x. refl }
 
 pub complex-commutes : Commutes complex
 complex-commutes = record {

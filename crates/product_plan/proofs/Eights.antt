@@ -3,10 +3,9 @@ use Prim.Native.Nat.{ℕ, zero, _+_, _-_, _≤_, _<_}
 use mathlib.Core.List.{List}
 use mathlib.Core.Path.{_≡_, refl, sym, ap, _∙_}
 use native.Mathlib.Omega.{arith}
-use lib.Ieee.{Float, Format}
 use lib.IntN.{pos}
-use Rattle.number.specs.Kind.{Kind, real}
-use Rattle.number.proofs.Commutes.{Commutes}
+use Rattle.number.specs.Kind.{Kind}
+use Rattle.number.proofs.Commutes.{Commutes, SelfConjugate}
 use Rattle.view.specs.declared.View.{View}
 use Rattle.view.specs.Place.{index, transposedOf}
 use Rattle.slab.specs.Elem.{elem, Within}
@@ -35,21 +34,21 @@ module _ (K : Kind) (x : ℕ → K .Elem) (g : ℕ → ℕ → K .Elem) where
   eight-end s from p end h l e = eight-same K s _ _ e (λ t q. plus-end K (g t) (x t) _ from p end h l refl)
 
 -- term p added: u is the left factor
-module _ (r : Format) (f : Factors) (a b : List Float) (i j : ℕ) (x : ℕ → Float) (from p : ℕ) (sums next : List Float) (u : Float) where
-  pub eight-next : from ≤ p → Eight (real r) sums (λ t. plusTerms (real r) (x t) (term (real r) f a b i (j + t)) from (p - from)) → u ≡ elem (real r) a (f .left) i p
-      → Eight (real r) next (λ t. real r .add (real r .at sums t) (real r .mul u (elem (real r) b (f .right) p (j + t))))
-      → Eight (real r) next (λ t. plusTerms (real r) (x t) (term (real r) f a b i (j + t)) from (p + 1 - from))
+module _ (K : Kind) (S : SelfConjugate K) (f : Factors) (a b : List (K .Cell)) (i j : ℕ) (x : ℕ → K .Elem) (from p : ℕ) (sums next : List (K .Cell)) (u : K .Elem) where
+  pub eight-next : from ≤ p → Eight K sums (λ t. plusTerms K (x t) (term K f a b i (j + t)) from (p - from)) → u ≡ elem K a (f .left) i p
+      → Eight K next (λ t. K .add (K .at sums t) (K .mul u (elem K b (f .right) p (j + t))))
+      → Eight K next (λ t. plusTerms K (x t) (term K f a b i (j + t)) from (p + 1 - from))
   eight-next h e eu n =
-      eight-same (real r) next _ _ n (λ t l. real-next r f a b i (j + t) (x t) from p (real r .at sums t) u (elem (real r) b (f .right) p (j + t)) _ _ h (e .sum t l) eu refl refl refl)
+      eight-same K next _ _ n (λ t l. real-next K S f a b i (j + t) (x t) from p (K .at sums t) u (elem K b (f .right) p (j + t)) _ _ h (e .sum t l) eu refl refl refl)
 
   -- the same where the right factors lie side by side from place k on
   pub beside-next : (lb k : ℕ) → f .right .cs ≡ pos 1 → Within (f .right) lb p (j + 7) → k ≡ index (f .right) p j
-      → from ≤ p → Eight (real r) sums (λ t. plusTerms (real r) (x t) (term (real r) f a b i (j + t)) from (p - from)) → u ≡ elem (real r) a (f .left) i p
-      → Eight (real r) next (λ t. real r .add (real r .at sums t) (real r .mul u (real r .at b (k + t))))
-      → Eight (real r) next (λ t. plusTerms (real r) (x t) (term (real r) f a b i (j + t)) from (p + 1 - from))
+      → from ≤ p → Eight K sums (λ t. plusTerms K (x t) (term K f a b i (j + t)) from (p - from)) → u ≡ elem K a (f .left) i p
+      → Eight K next (λ t. K .add (K .at sums t) (K .mul u (K .at b (k + t))))
+      → Eight K next (λ t. plusTerms K (x t) (term K f a b i (j + t)) from (p + 1 - from))
   beside-next lb k one w ek h e eu n =
       eight-next h e eu
-      (eight-same (real r) next _ _ n (λ t l. ap (λ (q : ℕ). real r .add (real r .at sums t) (real r .mul u (real r .at b q)))
+      (eight-same K next _ _ n (λ t l. ap (λ (q : ℕ). K .add (K .at sums t) (K .mul u (K .at b q)))
       (ap (λ (q : ℕ). q + t) ek ∙ sym (beside (f .right) lb p j t one (record { fits = w .fits; row = w .row; col = omega (arith, w .col) })))))
 
 -- ---- whole sums
@@ -76,13 +75,13 @@ sums-next K f a b i j p sums next u e eu n =
 
 -- ---- the eight of a column from row i on: op(A)'s rows are its transpose's columns, and the factors are multiplied in the other order
 
-pub column-sums-next : (r : Format) → Commutes (real r) → (f : Factors) (a b : List Float) (i p : ℕ) (sums next : List Float) (u : Float)
-    → Eight (real r) sums (λ t. sum (real r) p (term (real r) f a b (i + t) 0)) → u ≡ elem (real r) b (f .right) p 0
-    → Eight (real r) next (λ t. real r .add (real r .at sums t) (real r .mul u (elem (real r) a (transposedOf (f .left)) p (i + t))))
-    → Eight (real r) next (λ t. sum (real r) (p + 1) (term (real r) f a b (i + t) 0))
-column-sums-next r C f a b i p sums next u e eu n =
-    eight-same (real r) next _ _ n (λ t l. real-sum-next r f a b (i + t) 0 p (real r .at sums t) (elem (real r) a (f .left) (i + t) p) u _ _ (e .sum t l) refl eu
-    (C .commutes u (elem (real r) a (transposedOf (f .left)) p (i + t)) ∙ ap (λ (z : Float). real r .mul z u) (transposed-elem (real r) a (f .left) p (i + t)))
+pub column-sums-next : (K : Kind) → SelfConjugate K → Commutes K → (f : Factors) (a b : List (K .Cell)) (i p : ℕ) (sums next : List (K .Cell)) (u : K .Elem)
+    → Eight K sums (λ t. sum K p (term K f a b (i + t) 0)) → u ≡ elem K b (f .right) p 0
+    → Eight K next (λ t. K .add (K .at sums t) (K .mul u (elem K a (transposedOf (f .left)) p (i + t))))
+    → Eight K next (λ t. sum K (p + 1) (term K f a b (i + t) 0))
+column-sums-next K S C f a b i p sums next u e eu n =
+    eight-same K next _ _ n (λ t l. real-sum-next K S f a b (i + t) 0 p (K .at sums t) (elem K a (f .left) (i + t) p) u _ _ (e .sum t l) refl eu
+    (C .commutes u (elem K a (transposedOf (f .left)) p (i + t)) ∙ ap (λ z. K .mul z u) (transposed-elem K a (f .left) p (i + t)))
     refl)
 
 -- ---- the eight of a folded plan: before they turn, while they do, after

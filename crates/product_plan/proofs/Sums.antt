@@ -6,15 +6,15 @@ use mathlib.Core.Path.{_≡_, refl, sym, ap, subst, _∙_}
 use native.Mathlib.Numerals.{add-one}
 use native.Mathlib.Omega.{arith}
 use lib.Dec.{ltb}
-use lib.Ieee.{Float, Format}
 use borrow.Author.Tests.{lt-ltb, le-ltb}
-use Rattle.number.specs.Kind.{Kind, real}
+use Rattle.number.specs.Kind.{Kind}
+use Rattle.number.proofs.Commutes.{SelfConjugate}
 use Rattle.slab.specs.Elem.{elem}
 use Rattle.blas.specs.Matrix.{sum}
 use Rattle.blas.proofs.SumLaws.{sum-next}
 use Rattle.product_plan.specs.declared.plan.Factors.{Factors}
 use Rattle.product_plan.specs.declared.plan.Folded.{Folded}
-use Rattle.slab.proofs.RunLaws.{elem-conj-real}
+use Rattle.slab.proofs.RunLaws.{elem-own}
 use Rattle.slab.specs.Run.{elemConj, plusTerms}
 use Rattle.product_plan.specs.Plan.{term, termsBefore, foldedTerm, foldedProduct}
 
@@ -93,39 +93,39 @@ left-next K f a b i j x from p acc u v m next h c e eu ev em en =
     em
     en
 
--- the same of real numbers, whose conjugates are themselves
-pub real-next : (r : Format) (f : Factors) (a b : List Float) (i j : ℕ) (x : Float) (from p : ℕ) (acc u v m next : Float) → from ≤ p
-    → acc ≡ plusTerms (real r) x (term (real r) f a b i j) from (p - from) → u ≡ elem (real r) a (f .left) i p → v ≡ elem (real r) b (f .right) p j
-    → m ≡ real r .mul u v → next ≡ real r .add acc m → next ≡ plusTerms (real r) x (term (real r) f a b i j) from (p + 1 - from)
-real-next r f a b i j x from p acc u v m next h e eu ev em en =
-    term-next (real r) f a b i j x from p acc u v m next h e (eu ∙ elem-conj-real r (f .«left_conj») a (f .left) i p)
-    (ev ∙ elem-conj-real r (f .«right_conj») b (f .right) p j)
+-- the same of numbers that are their own conjugates
+pub real-next : (K : Kind) → SelfConjugate K → (f : Factors) (a b : List (K .Cell)) (i j : ℕ) (x : K .Elem) (from p : ℕ) (acc u v m next : K .Elem) → from ≤ p
+    → acc ≡ plusTerms K x (term K f a b i j) from (p - from) → u ≡ elem K a (f .left) i p → v ≡ elem K b (f .right) p j
+    → m ≡ K .mul u v → next ≡ K .add acc m → next ≡ plusTerms K x (term K f a b i j) from (p + 1 - from)
+real-next K S f a b i j x from p acc u v m next h e eu ev em en =
+    term-next K f a b i j x from p acc u v m next h e (eu ∙ elem-own K S (f .«left_conj») a (f .left) i p)
+    (ev ∙ elem-own K S (f .«right_conj») b (f .right) p j)
     em
     en
 
--- the same of a sum of real numbers from its first term on
-pub real-sum-next : (r : Format) (f : Factors) (a b : List Float) (i j p : ℕ) (acc u v m next : Float) → acc ≡ sum (real r) p (term (real r) f a b i j)
-    → u ≡ elem (real r) a (f .left) i p → v ≡ elem (real r) b (f .right) p j → m ≡ real r .mul u v → next ≡ real r .add acc m
-    → next ≡ sum (real r) (p + 1) (term (real r) f a b i j)
-real-sum-next r f a b i j p acc u v m next e eu ev em en =
-    sum-next (real r) (term (real r) f a b i j) p acc m next e
-    (em ∙ (λ t. real r .mul ((eu ∙ elem-conj-real r (f .«left_conj») a (f .left) i p) t) ((ev ∙ elem-conj-real r (f .«right_conj») b (f .right) p j) t)))
+-- the same of a sum from its first term on
+pub real-sum-next : (K : Kind) → SelfConjugate K → (f : Factors) (a b : List (K .Cell)) (i j p : ℕ) (acc u v m next : K .Elem) → acc ≡ sum K p (term K f a b i j)
+    → u ≡ elem K a (f .left) i p → v ≡ elem K b (f .right) p j → m ≡ K .mul u v → next ≡ K .add acc m
+    → next ≡ sum K (p + 1) (term K f a b i j)
+real-sum-next K S f a b i j p acc u v m next e eu ev em en =
+    sum-next K (term K f a b i j) p acc m next e
+    (em ∙ (λ t. K .mul ((eu ∙ elem-own K S (f .«left_conj») a (f .left) i p) t) ((ev ∙ elem-own K S (f .«right_conj») b (f .right) p j) t)))
     en
 
--- ---- a term before the turn, and one after it, of real numbers
+-- ---- a term before the turn, and one after it, of numbers that are their own conjugates
 
-module _ (r : Format) (plan : Folded) (a b : List Float) (i j p k : ℕ) (u v m : Float) (ek : k ≡ termsBefore (plan .turn) i j) where
-  pub before-turn : p < k → u ≡ elem (real r) a (plan .head .left) i p → v ≡ elem (real r) b (plan .head .right) p j → m ≡ real r .mul u v → m ≡ foldedTerm (real r) plan a b i j p
+module _ (K : Kind) (S : SelfConjugate K) (plan : Folded) (a b : List (K .Cell)) (i j p k : ℕ) (u v m : K .Elem) (ek : k ≡ termsBefore (plan .turn) i j) where
+  pub before-turn : p < k → u ≡ elem K a (plan .head .left) i p → v ≡ elem K b (plan .head .right) p j → m ≡ K .mul u v → m ≡ foldedTerm K plan a b i j p
   before-turn h eu ev em =
       em
-      ∙ (λ t. real r .mul ((eu ∙ elem-conj-real r (plan .head .«left_conj») a (plan .head .left) i p) t) ((ev ∙ elem-conj-real r (plan .head .«right_conj») b (plan .head .right) p j) t))
-      ∙ ap (λ (c : Bool). cond c (term (real r) (plan .head) a b i j p) (term (real r) (plan .tail) a b i j p)) (sym (lt-ltb p _ (subst (λ (z : ℕ). p < z) ek h)))
+      ∙ (λ t. K .mul ((eu ∙ elem-own K S (plan .head .«left_conj») a (plan .head .left) i p) t) ((ev ∙ elem-own K S (plan .head .«right_conj») b (plan .head .right) p j) t))
+      ∙ ap (λ (c : Bool). cond c (term K (plan .head) a b i j p) (term K (plan .tail) a b i j p)) (sym (lt-ltb p _ (subst (λ (z : ℕ). p < z) ek h)))
 
-  pub after-turn : k ≤ p → u ≡ elem (real r) a (plan .tail .left) i p → v ≡ elem (real r) b (plan .tail .right) p j → m ≡ real r .mul u v → m ≡ foldedTerm (real r) plan a b i j p
+  pub after-turn : k ≤ p → u ≡ elem K a (plan .tail .left) i p → v ≡ elem K b (plan .tail .right) p j → m ≡ K .mul u v → m ≡ foldedTerm K plan a b i j p
   after-turn h eu ev em =
       em
-      ∙ (λ t. real r .mul ((eu ∙ elem-conj-real r (plan .tail .«left_conj») a (plan .tail .left) i p) t) ((ev ∙ elem-conj-real r (plan .tail .«right_conj») b (plan .tail .right) p j) t))
-      ∙ ap (λ (c : Bool). cond c (term (real r) (plan .head) a b i j p) (term (real r) (plan .tail) a b i j p)) (sym (le-ltb p _ (subst (λ (z : ℕ). z ≤ p) ek h)))
+      ∙ (λ t. K .mul ((eu ∙ elem-own K S (plan .tail .«left_conj») a (plan .tail .left) i p) t) ((ev ∙ elem-own K S (plan .tail .«right_conj») b (plan .tail .right) p j) t))
+      ∙ ap (λ (c : Bool). cond c (term K (plan .head) a b i j p) (term K (plan .tail) a b i j p)) (sym (le-ltb p _ (subst (λ (z : ℕ). z ≤ p) ek h)))
 
 -- ---- the terms before a turn and those after it
 

@@ -3,18 +3,15 @@ use Prim.Native.Nat.{ℕ, _+_, _-_, _^_, _≤_, _<_}
 use mathlib.Core.List.{List}
 use mathlib.Core.Path.{_≡_, sym, ap, _∙_}
 use native.Mathlib.Omega.{arith}
-use lib.Ieee.{Float, Format, ofBits}
-use lib.ListN.{replicate}
-use Rattle.number.specs.Kind.{Kind, real}
-use Rattle.number.proofs.Literals.{zero-literal}
+use Rattle.number.specs.Kind.{Kind}
+use Rattle.number.proofs.Commutes.{SelfConjugate}
 use Rattle.view.specs.declared.View.{View}
 use Rattle.view.specs.Triangle.{endCol}
 use Rattle.slab.specs.Elem.{elem, Within}
 use Rattle.slab.specs.Eight.{Eight}
 use Rattle.slab.specs.Update.{Change, span, replaced}
-use Rattle.slab.proofs.EightLaws.{eight-of}
 use Rattle.slab.proofs.LoopLaws.{span-end, span-same}
-use Rattle.slab.proofs.RunLaws.{elem-conj-real}
+use Rattle.slab.proofs.RunLaws.{elem-own}
 use Rattle.blas.specs.Matrix.{pairSum}
 use Rattle.blas.proofs.SumLaws.{pair-start, pair-next, pair-end}
 use Rattle.rank_plan.specs.declared.plan.Plan.{Plan}
@@ -30,25 +27,23 @@ pub two-more : (K : Kind) (s next r : List (K .Cell)) (f g : ℕ → K .Elem) �
     → Eight K r (λ t. K .add (K .add (K .at s t) (f t)) (g t))
 two-more K s next r f g h k = record { count = k .count; sum = λ t l. k .sum t l ∙ ap (λ z. K .add z (g t)) (h .sum t l) }
 
--- the right factors are those that the plan reads: a real number is its own conjugate
-pub as-planned : (f : Format) (plan : Plan) (a b s r : List Float) (x y x' y' : Float) (p j : ℕ) → x ≡ x' → y ≡ y'
-    → Eight (real f) r (λ t. real f .add (real f .add (real f .at s t) (real f .mul x (elem (real f) b (plan .«right_b») p (j + t)))) (real f .mul y (elem (real f) a (plan .«right_a») p (j + t))))
-    → Eight (real f) r (λ t. real f .add (real f .add (real f .at s t) (real f .mul x' (rightB (real f) plan a b p (j + t)))) (real f .mul y' (rightA (real f) plan a b p (j + t))))
-as-planned f plan a b s r x y x' y' p j ex ey h =
+-- the right factors are those that the plan reads: a number is its own conjugate
+pub as-planned : (K : Kind) → SelfConjugate K → (plan : Plan) (a b s r : List (K .Cell)) (x y x' y' : K .Elem) (p j : ℕ) → x ≡ x' → y ≡ y'
+    → Eight K r (λ t. K .add (K .add (K .at s t) (K .mul x (elem K b (plan .«right_b») p (j + t)))) (K .mul y (elem K a (plan .«right_a») p (j + t))))
+    → Eight K r (λ t. K .add (K .add (K .at s t) (K .mul x' (rightB K plan a b p (j + t)))) (K .mul y' (rightA K plan a b p (j + t))))
+as-planned K S plan a b s r x y x' y' p j ex ey h =
     record {
       count = h .count;
       sum = λ t l.
           h .sum t l
-          ∙ (λ i. real f .add
-          (real f .add (real f .at s t) (real f .mul (ex i) (elem-conj-real f (plan .«right_conj») b (plan .«right_b») p (j + t) i)))
-          (real f .mul (ey i) (elem-conj-real f (plan .«right_conj») a (plan .«right_a») p (j + t) i)));
+          ∙ (λ i. K .add
+          (K .add (K .at s t) (K .mul (ex i) (elem-own K S (plan .«right_conj») b (plan .«right_b») p (j + t) i)))
+          (K .mul (ey i) (elem-own K S (plan .«right_conj») a (plan .«right_a») p (j + t) i)));
     }
 
 -- sum t is of the terms f t and g t; eight zeros are the sums of no terms
-pub pairs-start : (w : Format) (f g : ℕ → ℕ → Float) → Eight (real w) (replicate 8 (ofBits w 0)) (λ t. pairSum (real w) 0 (f t) (g t))
-pairs-start w f g =
-    let none = eight-of w (ofBits w 0) in
-    record { count = none .count; sum = λ t l. none .sum t l ∙ zero-literal w ∙ sym (pair-start (real w) (f t) (g t)) }
+pub pairs-start : (K : Kind) (f g : ℕ → ℕ → K .Elem) (s : List (K .Cell)) → Eight K s (λ t. K .zero) → Eight K s (λ t. pairSum K 0 (f t) (g t))
+pairs-start K f g s none = record { count = none .count; sum = λ t l. none .sum t l ∙ sym (pair-start K (f t) (g t)) }
 
 module _ (K : Kind) (f g : ℕ → ℕ → K .Elem) where
   pub pairs-next : (p : ℕ) (s r : List (K .Cell)) → Eight K s (λ t. pairSum K p (f t) (g t)) → Eight K r (λ t. K .add (K .add (K .at s t) (f t p)) (g t p))

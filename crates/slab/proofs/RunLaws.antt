@@ -1,12 +1,12 @@
--- A run of terms as a loop meets it: its first and next step, and its end; elements of real kinds.
+-- A run of terms as a loop meets it: its first and next step, and its end; an element that is its own conjugate.
 use Prim.Native.Nat.{ℕ, _+_, _≤_}
 use mathlib.Core.Bool.{Bool, true, false}
 use mathlib.Core.List.{List}
-use mathlib.Core.Path.{_≡_, refl, subst, _∙_}
+use mathlib.Core.Path.{_≡_, refl, sym, subst, _∙_}
 use native.Mathlib.Numerals.{add-one}
 use native.Mathlib.Omega.{arith}
-use lib.Ieee.{Float, Format}
-use Rattle.number.specs.Kind.{Kind, real}
+use Rattle.number.specs.Kind.{Kind}
+use Rattle.number.proofs.Commutes.{SelfConjugate}
 use Rattle.view.specs.declared.View.{View}
 use Rattle.slab.specs.Elem.{elem}
 use Rattle.slab.specs.Run.{elemConj, plusTerms}
@@ -26,7 +26,7 @@ module _ (K : Kind) (f : ℕ → K .Elem) where
       let q : k ≡ n = omega arith in
       subst (λ (m : ℕ). y ≡ plusTerms K x f from m) q e
 
--- a real number is its own conjugate
-pub elem-conj-real : (f : Format) (c : Bool) (s : List Float) (v : View) (i j : ℕ) → elem (real f) s v i j ≡ elemConj (real f) c s v i j
-elem-conj-real f true s v i j = refl
-elem-conj-real f false s v i j = refl
+-- of a kind whose numbers are their own conjugates
+pub elem-own : (K : Kind) → SelfConjugate K → (c : Bool) (s : List (K .Cell)) (v : View) (i j : ℕ) → elem K s v i j ≡ elemConj K c s v i j
+elem-own K S true s v i j = sym (S .own (elem K s v i j))
+elem-own K S false s v i j = refl

@@ -18,7 +18,7 @@ use Rattle.slab.proofs.UpdateLaws.{Keeps, row-both, rows-both}
 pub record Swaps (K : Kind) : Type 0 where
   pub swap : (s : List (K .Cell)) (k j : ℕ) (x y : K .Elem) → (j ≡ k → ⊥) → K .put (K .put s k x) j y ≡ K .put (K .put s j y) k x
 
-set-swap : {A : Type 0} (s : List A) (k j : ℕ) (x y : A) → (j ≡ k → ⊥) → set (set s k x) j y ≡ set (set s j y) k x
+pub set-swap : {A : Type 0} (s : List A) (k j : ℕ) (x y : A) → (j ≡ k → ⊥) → set (set s k x) j y ≡ set (set s j y) k x
 set-swap [] k j x y h = refl
 set-swap (z ∷ s) zero zero x y h = absurd (h refl)
 set-swap (z ∷ s) zero (suc j) x y h = refl

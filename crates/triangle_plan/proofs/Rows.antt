@@ -4,17 +4,16 @@ use mathlib.Core.Bool.{Bool, true, false, not, cond}
 use mathlib.Core.List.{List}
 use mathlib.Core.Path.{_≡_, refl, ap, sym, subst, _∙_}
 use native.Mathlib.Omega.{arith}
-use lib.Ieee.{Float, Format}
-use Rattle.number.specs.Kind.{Kind, real}
+use Rattle.number.specs.Kind.{Kind}
 use Rattle.number.specs.Laws.{SlabLaws}
-use Rattle.number.proofs.Commutes.{Commutes}
+use Rattle.number.proofs.Commutes.{Commutes, SelfConjugate}
 use Rattle.view.specs.Place.{index, transposedOf}
 use Rattle.view.proofs.TransposeLaws.{transposed-accepted}
 use Rattle.slab.specs.Distinct.{Distinct}
 use Rattle.slab.specs.Eight.{Eight}
 use Rattle.slab.specs.Elem.{elem, Within}
 use Rattle.slab.specs.Run.{plusTerms}
-use Rattle.slab.proofs.RunLaws.{elem-conj-real}
+use Rattle.slab.proofs.RunLaws.{elem-own}
 use Rattle.blas.specs.Substitution.{inOrder}
 use Rattle.blas.proofs.OpLaws.{transposed-elem}
 use Rattle.blas.proofs.SubstitutionLaws.{in-order-lt}
@@ -44,31 +43,31 @@ module _ (y : System) (la lb q : ℕ) (r : RowsReady y la lb q) where
 
 -- ---- terms added to each of eight rows, from unknown `from` on
 
-module _ (f : Format) (C : Commutes (real f)) (y : System) (a b : List Float) (q from : ℕ) (xs : List Float) where
-  abbrev rowTerm : ℕ → ℕ → Float
-  rowTerm t p = lineTerm (real f) y a b (q + t) 0 p
+module _ (K : Kind) (S : SelfConjugate K) (C : Commutes K) (y : System) (a b : List (K .Cell)) (q from : ℕ) (xs : List (K .Cell)) where
+  abbrev rowTerm : ℕ → ℕ → K .Elem
+  rowTerm t p = lineTerm K y a b (q + t) 0 p
 
-  abbrev moreRows : ℕ → ℕ → Float
-  moreRows n t = plusTerms (real f) (real f .at xs t) (rowTerm t) from n
+  abbrev moreRows : ℕ → ℕ → K .Elem
+  moreRows n t = plusTerms K (K .at xs t) (rowTerm t) from n
 
-  pub rows-first : real f .count xs ≡ 8 → Eight (real f) xs (moreRows (from - from))
-  rows-first many = record { count = many; sum = λ t g. plus-first (real f) (rowTerm t) (real f .at xs t) from }
+  pub rows-first : K .count xs ≡ 8 → Eight K xs (moreRows (from - from))
+  rows-first many = record { count = many; sum = λ t g. plus-first K (rowTerm t) (K .at xs t) from }
 
   -- x is unknown p; the factors are multiplied in the other order
-  pub rows-on : (p : ℕ) (ys zs : List Float) (x : Float) → from ≤ p → x ≡ elem (real f) b (y .b) p 0 → Eight (real f) ys (moreRows (p - from))
-      → Eight (real f) zs (λ t. real f .add (real f .at ys t) (real f .mul x (elem (real f) a (transposedOf (y .a)) p (q + t)))) → Eight (real f) zs (moreRows (p + 1 - from))
+  pub rows-on : (p : ℕ) (ys zs : List (K .Cell)) (x : K .Elem) → from ≤ p → x ≡ elem K b (y .b) p 0 → Eight K ys (moreRows (p - from))
+      → Eight K zs (λ t. K .add (K .at ys t) (K .mul x (elem K a (transposedOf (y .a)) p (q + t)))) → Eight K zs (moreRows (p + 1 - from))
   rows-on p ys zs x h read e d = record {
     count = d .count;
-    sum = λ t g. plus-on (real f) (rowTerm t) (real f .at xs t) from p (real f .at ys t) (real f .mul x (elem (real f) a (transposedOf (y .a)) p (q + t))) (real f .at zs t) h (e .sum t g) (is-term t) (d .sum t g);
+    sum = λ t g. plus-on K (rowTerm t) (K .at xs t) from p (K .at ys t) (K .mul x (elem K a (transposedOf (y .a)) p (q + t))) (K .at zs t) h (e .sum t g) (is-term t) (d .sum t g);
   }
     where
-      is-term : (t : ℕ) → real f .mul x (elem (real f) a (transposedOf (y .a)) p (q + t)) ≡ rowTerm t p
+      is-term : (t : ℕ) → K .mul x (elem K a (transposedOf (y .a)) p (q + t)) ≡ rowTerm t p
       is-term t =
-          C .commutes x (elem (real f) a (transposedOf (y .a)) p (q + t))
-          ∙ (λ i. real f .mul ((transposed-elem (real f) a (y .a) p (q + t) ∙ elem-conj-real f (y .conjugated) a (y .a) (q + t) p) i) (read i))
+          C .commutes x (elem K a (transposedOf (y .a)) p (q + t))
+          ∙ (λ i. K .mul ((transposed-elem K a (y .a) p (q + t) ∙ elem-own K S (y .conjugated) a (y .a) (q + t) p) i) (read i))
 
-  pub rows-done : (n p end : ℕ) (ys : List Float) → end ≡ from + n → p ≤ end → end ≤ p → Eight (real f) ys (moreRows (p - from)) → Eight (real f) ys (moreRows n)
-  rows-done n p end ys counted h g e = record { count = e .count; sum = λ t k. plus-done (real f) (rowTerm t) (real f .at xs t) from n p end (real f .at ys t) counted h g (e .sum t k) }
+  pub rows-done : (n p end : ℕ) (ys : List (K .Cell)) → end ≡ from + n → p ≤ end → end ≤ p → Eight K ys (moreRows (p - from)) → Eight K ys (moreRows n)
+  rows-done n p end ys counted h g e = record { count = e .count; sum = λ t k. plus-done K (rowTerm t) (K .at xs t) from n p end (K .at ys t) counted h g (e .sum t k) }
 
 -- ---- a row's pieces are its sum
 

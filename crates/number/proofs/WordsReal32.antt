@@ -1,0 +1,18 @@
+-- The laws of f32 by the names that a text for several kinds uses.
+use lib.Ieee.{binary32}
+use Rattle.number.specs.Kind.{real32}
+use Rattle.number.specs.Laws.{SlabLaws}
+use Rattle.number.proofs.Commutes.{Commutes, SelfConjugate, real-commutes, real-self-conjugate}
+use Rattle.number.proofs.SlabLaws.{real-slab}
+pub use Rattle.number.proofs.Instances.{real32-laws as laws}
+pub use Rattle.number.proofs.Literals.{one-literal32 as one-literal}
+pub use Rattle.number.proofs.ScalingLaws.{scale32 as scale-by, scale32 as scale-by-real}
+
+pub slab : SlabLaws real32
+slab = real-slab binary32
+
+pub commutes : Commutes real32
+commutes = real-commutes binary32
+
+pub self-conjugate : SelfConjugate real32
+self-conjugate = real-self-conjugate binary32

@@ -1,0 +1,18 @@
+-- The laws of f64 by the names that a text for several kinds uses.
+use lib.Ieee.{binary64}
+use Rattle.number.specs.Kind.{real64}
+use Rattle.number.specs.Laws.{SlabLaws}
+use Rattle.number.proofs.Commutes.{Commutes, SelfConjugate, real-commutes, real-self-conjugate}
+use Rattle.number.proofs.SlabLaws.{real-slab}
+pub use Rattle.number.proofs.Instances.{real64-laws as laws}
+pub use Rattle.number.proofs.Literals.{one-literal64 as one-literal}
+pub use Rattle.number.proofs.ScalingLaws.{scale64 as scale-by, scale64 as scale-by-real}
+
+pub slab : SlabLaws real64
+slab = real-slab binary64
+
+pub commutes : Commutes real64
+commutes = real-commutes binary64
+
+pub self-conjugate : SelfConjugate real64
+self-conjugate = real-self-conjugate binary64
