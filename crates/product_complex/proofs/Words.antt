@@ -18,7 +18,7 @@ pub use Rattle.product_plan.proofs.Rows.{entry-put, put-replaced, row-columns, 
 pub use Rattle.product_plan.proofs.Sums.{folded-sum, left-next, plus-end, plus-start, sum-whole, term-next}
 pub use Rattle.product_plan.specs.Plan.{foldedChange, planChange, product, term}
 pub use Rattle.slab.proofs.EightLaws.{four-of}
-pub use Rattle.slab.proofs.LoopLaws.{column-next, put-next, row-last, rows-last, rows-next, span-after, span-end, span-next, span-start}
+pub use Rattle.slab.proofs.LoopLaws.{column-next, put-next, row-last, row-begun, rows-last, rows-next, rows-begun, span-after, span-end, span-next, span-start}
 pub use Rattle.slab.proofs.Shown.{inside, shown}
 pub use Rattle.slab.specs.Eight.{Lanes}
 pub use Rattle.slab.specs.Run.{plusTerms}

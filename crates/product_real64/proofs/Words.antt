@@ -25,7 +25,7 @@ pub use Rattle.product_plan.proofs.Rows.{entry-put, put-replaced, row-columns, 
 pub use Rattle.product_plan.proofs.Sums.{after-turn, before-turn, folded-sum, plus-end, plus-start, real-next, sum-whole}
 pub use Rattle.product_plan.specs.Plan.{foldedChange, foldedProduct, foldedTerm, planChange, product, term, turnedSum}
 pub use Rattle.slab.proofs.EightLaws.{Part, eight-of, eight-same, part-end, part-next, part-start}
-pub use Rattle.slab.proofs.LoopLaws.{column-next, put-next, row-last, rows-last, rows-next, rows-span-end, rows-span-next, rows-span-start, span-after, span-end, span-next, span-on, span-start}
+pub use Rattle.slab.proofs.LoopLaws.{column-next, put-next, row-last, row-begun, rows-last, rows-next, rows-span-end, rows-span-next, rows-span-start, rows-begun, span-after, span-end, span-next, span-on, span-start}
 pub use Rattle.slab.proofs.Shown.{beside, inside, shown}
 pub use Rattle.slab.specs.Eight.{Eight}
 pub use Rattle.slab.specs.Run.{plusTerms}

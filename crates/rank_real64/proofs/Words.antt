@@ -19,7 +19,7 @@ pub use Rattle.rank_plan.proofs.Kernels.{her-done, her-refused, her-runs, her-v
 pub use Rattle.rank_plan.proofs.Laws.{her-same, her2-same, more, put-replaced, twice}
 pub use Rattle.rank_plan.proofs.Rows.{begins, column-lt, row-lt, span-last, span-next, span-start}
 pub use Rattle.rank_plan.specs.Change.{addOne, addTwo, her2kChange, pairsAt, syr2kChange, weighedsAt}
-pub use Rattle.slab.proofs.LoopLaws.{rows-last, rows-next, span-on}
+pub use Rattle.slab.proofs.LoopLaws.{row-begun, rows-last, rows-next, rows-begun, span-on}
 pub use Rattle.slab.proofs.Shown.{inside, shown}
 pub use Rattle.slab.specs.Eight.{Eight}
 pub use Rattle.slab.specs.Elem.{elem}

@@ -13,6 +13,13 @@ use Rattle.slab.specs.Elem.{elem}
 use Rattle.slab.specs.Update.{Mask, Change, everywhere, updateOne, updateRow, updateRows, span, spanRows, update, replaced}
 use Rattle.slab.proofs.UpdateLaws.{row-both, rows-both, row-start, row-step, rows-start, rows-step}
 
+-- before the first element of a row, and before the first row, nothing is replaced
+pub row-begun : (K : Kind) (v : View) (mask : Mask) (u : Change K) (i : ℕ) (s : List (K .Cell)) → s ≡ updateRow K v mask u i 0 s
+row-begun K v mask u i s = sym (row-start K v mask u s i)
+
+pub rows-begun : (K : Kind) (v : View) (mask : Mask) (u : Change K) (s : List (K .Cell)) → s ≡ updateRows K v mask u 0 s
+rows-begun K v mask u s = sym (rows-start K v mask u s)
+
 module _ (K : Kind) (v : View) (mask : Mask) (u : Change K) (s₀ s : List (K .Cell)) where
   -- element (i, j) after the j elements of row i before it
   pub row-next : (i j : ℕ) (t : List (K .Cell)) → s ≡ updateRow K v mask u i j s₀ → t ≡ updateOne K v mask u i j s → t ≡ updateRow K v mask u i (j + 1) s₀

@@ -11,7 +11,7 @@ pub use Rattle.number.proofs.Commutes.{complex-commutes}
 pub use Rattle.number.proofs.Instances.{complex-laws}
 pub use Rattle.number.proofs.Literals.{one-literal64, zero-literal}
 pub use Rattle.number.specs.Kind.{complex}
-pub use Rattle.slab.proofs.LoopLaws.{row-last, row-next, rows-last, rows-next}
+pub use Rattle.slab.proofs.LoopLaws.{row-last, row-next, row-begun, rows-last, rows-next, rows-begun}
 pub use Rattle.slab.proofs.Shown.{inside, shown}
 pub use Rattle.slab.specs.Elem.{elem}
 pub use Rattle.slab.specs.Run.{elemConj, plusTerms}

@@ -14,7 +14,7 @@ pub use Rattle.number.proofs.Literals.{one-literal64, zero-literal}
 pub use Rattle.number.proofs.SlabLaws.{real-slab}
 pub use Rattle.number.specs.Kind.{real64}
 pub use Rattle.slab.proofs.EightLaws.{Part, eight-of, part-end, part-next, part-start}
-pub use Rattle.slab.proofs.LoopLaws.{row-last, row-next, rows-last, rows-next}
+pub use Rattle.slab.proofs.LoopLaws.{row-last, row-next, row-begun, rows-last, rows-next, rows-begun}
 pub use Rattle.slab.proofs.RunLaws.{elem-conj-real}
 pub use Rattle.slab.proofs.Shown.{inside, shown}
 pub use Rattle.slab.specs.Eight.{Eight}

@@ -1,4 +1,4 @@
-use Rattle.product_complex.proofs.Words.{ℕ, _≤_, _-_, _/_, _≡_, refl, ap, _∙_, arith, length, complex, scaleByComplex, times, everywhere, updateRows, rows-next, rows-last, foldedChange, folded-kept}
+use Rattle.product_complex.proofs.Words.{rows-begun, ℕ, _≤_, _-_, _/_, _≡_, refl, ap, _∙_, arith, length, complex, scaleByComplex, times, everywhere, updateRows, rows-next, rows-last, foldedChange, folded-kept}
 use Rattle.product_complex.proofs.run_hemm_right.Statement.{statement}
 use Rattle.product_complex.proofs.run_hemm_right.Tie as tie
 
@@ -6,9 +6,8 @@ abbrev Inv-loop : tie.InvT-loop
 Inv-loop plan a b alpha beta c₀ m i₀ c i = (i ≤ m) × (length c ≡ length c₀) × (c ≡ updateRows complex (plan .target) everywhere (foldedChange complex plan (scaleByComplex beta) (times alpha) a b) i c₀)
 
 pub run-hemm-right-spec : {M : Type 1} → statement M
-unfolding updateRows
 run-hemm-right-spec = tie.close (tie.spec
-    Inv-loop (λ plan a b alpha beta c₀ m i₀ c i. m - i) (λ c κs. tt) (λ c. (omega arith, refl, refl))
+    Inv-loop (λ plan a b alpha beta c₀ m i₀ c i. m - i) (λ c κs. tt) (λ c. (omega arith, refl, rows-begun _ _ _ _ _))
     (λ c κs. (folded-kept _ _ _ _ _ (ap (λ (k : ℕ). k / 2) (c .before .before .loop .inv .1)) (c .before .before .before .before .before .before .before .pre), omega (arith, c .before .before .before .rows .ensures)))
     (λ c. omega arith) (λ c. omega arith)
     (λ c. (omega arith, c .before .before .hemm-right-row .kept .1 .1 .1 .1 .1 .0 ∙ c .before .before .before .before .before .loop .inv .1, rows-next _ _ _ _ _ _ _ _ (c .before .before .before .before .before .loop .inv .2) (c .before .before .hemm-right-row .ensures)))

@@ -1,5 +1,5 @@
 -- Block after block is the row so far (Eights: block-settled).
-use Rattle.product_complex.proofs.Words.{ℕ, _≤_, _+_, _-_, _/_, _≡_, refl, ap, _∙_, arith, length, now, complex, scaleByComplex, times, everywhere, updateRow, row-last, span-after, product, planChange, ready-kept, block-settled}
+use Rattle.product_complex.proofs.Words.{row-begun, ℕ, _≤_, _+_, _-_, _/_, _≡_, refl, ap, _∙_, arith, length, now, complex, scaleByComplex, times, everywhere, updateRow, row-last, span-after, product, planChange, ready-kept, block-settled}
 use Rattle.product_complex.proofs.wide_row.Statement.{statement}
 use Rattle.product_complex.proofs.wide_row.Tie as tie
 
@@ -7,9 +7,8 @@ abbrev Inv-loop : tie.InvT-loop
 Inv-loop plan a b alpha beta c₀ i n j₀ c j = (j ≤ n) × (length c ≡ length c₀) × (c ≡ updateRow complex (plan .target) everywhere (planChange complex plan (scaleByComplex beta) (times alpha) a b) i j c₀)
 
 pub wide-row-spec : {M : Type 1} → statement M
-unfolding updateRow
 wide-row-spec = tie.close (tie.spec
-    Inv-loop (λ plan a b alpha beta c₀ i n j₀ c j. n - j) (λ c κs. tt) (λ c. (omega arith, refl, refl))
+    Inv-loop (λ plan a b alpha beta c₀ i n j₀ c j. n - j) (λ c κs. tt) (λ c. (omega arith, refl, row-begun _ _ _ _ _ _))
     (λ c κs. let r = c .before .before .before .before .before .before .pre in (omega arith, omega (arith, r .2, c .before .before .cols .ensures), omega (arith, r .0 .target .cols-le, c .before .before .cols .ensures), omega arith))
     (λ c κs. let r = c .before .before .before .before .before .before .before .pre in (r .0 .reads, r .1, omega (arith, c .block-start .ensures .2, c .before .before .before .cols .ensures)))
     (λ c κs. let r = c .before .before .before .before .before .before .before .before .before .pre in

@@ -1,5 +1,5 @@
 -- Block after block is the column so far (Eights: column-settled).
-use Rattle.product_real64.proofs.Words.{_≤_, _+_, _-_, _≡_, refl, _∙_, arith, length, real64, scaleBy64, now, everywhere, updateRows, rows-last, product, planChange, ready-kept, column-settled}
+use Rattle.product_real64.proofs.Words.{rows-begun, _≤_, _+_, _-_, _≡_, refl, _∙_, arith, length, real64, scaleBy64, now, everywhere, updateRows, rows-last, product, planChange, ready-kept, column-settled}
 use Rattle.product_real64.proofs.column_wide.Statement.{statement}
 use Rattle.product_real64.proofs.column_wide.Tie as tie
 
@@ -7,9 +7,8 @@ abbrev Inv-loop : tie.InvT-loop
 Inv-loop plan a b alpha beta c₀ m i₀ c i = (i ≤ m) × (length c ≡ length c₀) × (c ≡ updateRows real64 (plan .target) everywhere (planChange real64 plan (scaleBy64 beta) (real64 .mul (alpha .0)) a b) i c₀)
 
 pub column-wide-spec : {M : Type 1} → statement M
-unfolding updateRows
 column-wide-spec = tie.close (tie.spec
-    Inv-loop (λ plan a b alpha beta c₀ m i₀ c i. m - i) (λ c κs. tt) (λ c. (omega arith, refl, refl))
+    Inv-loop (λ plan a b alpha beta c₀ m i₀ c i. m - i) (λ c κs. tt) (λ c. (omega arith, refl, rows-begun _ _ _ _ _))
     (λ c κs. let r = c .before .before .before .before .before .before .pre in (omega arith, omega (arith, r .2, c .before .before .rows .ensures), omega (arith, r .0 .target .rows-le, c .before .before .rows .ensures), omega arith))
     (λ c κs. let r = c .before .before .before .before .before .before .before .pre in (r .0 .reads, omega (arith, c .block-start .ensures .2, c .before .before .before .rows .ensures), r .1))
     (λ c κs. let r = c .before .before .before .before .before .before .before .before .before .pre in

@@ -1,5 +1,5 @@
 -- Block after block is the row so far.
-use Rattle.product_real64.proofs.Words.{_≤_, _-_, _≡_, refl, _∙_, arith, length, real64, scaleBy64, everywhere, updateRow, row-last, span-after, foldedChange, folded-kept}
+use Rattle.product_real64.proofs.Words.{row-begun, _≤_, _-_, _≡_, refl, _∙_, arith, length, real64, scaleBy64, everywhere, updateRow, row-last, span-after, foldedChange, folded-kept}
 use Rattle.product_real64.proofs.folded_wide_row.Statement.{statement}
 use Rattle.product_real64.proofs.folded_wide_row.Tie as tie
 
@@ -7,9 +7,8 @@ abbrev Inv-loop : tie.InvT-loop
 Inv-loop plan a b alpha beta c₀ i n j₀ c j = (j ≤ n) × (length c ≡ length c₀) × (c ≡ updateRow real64 (plan .target) everywhere (foldedChange real64 plan (scaleBy64 beta) (real64 .mul (alpha .0)) a b) i j c₀)
 
 pub folded-wide-row-spec : {M : Type 1} → statement M
-unfolding updateRow
 folded-wide-row-spec = tie.close (tie.spec
-    Inv-loop (λ plan a b alpha beta c₀ i n j₀ c j. n - j) (λ c κs. tt) (λ c. (omega arith, refl, refl))
+    Inv-loop (λ plan a b alpha beta c₀ i n j₀ c j. n - j) (λ c κs. tt) (λ c. (omega arith, refl, row-begun _ _ _ _ _ _))
     (λ c κs. let r = c .before .before .before .before .before .before .pre in (omega arith, omega (arith, r .2, c .before .before .cols .ensures), omega (arith, r .0 .target .cols-le, c .before .before .cols .ensures), omega arith))
     (λ c. omega (arith, c .before .block-start .ensures .2))
     (λ c κs. let r = c .before .before .before .before .before .before .before .before .pre in

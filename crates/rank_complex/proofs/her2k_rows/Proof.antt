@@ -1,4 +1,4 @@
-use Rattle.rank_complex.proofs.Words.{ℕ, _≤_, _-_, _/_, _≡_, refl, ap, _∙_, arith, length, complex, scaleByComplex, inTriangle, updateRows, rows-next, rows-last, her2kChange, paired-kept}
+use Rattle.rank_complex.proofs.Words.{rows-begun, ℕ, _≤_, _-_, _/_, _≡_, refl, ap, _∙_, arith, length, complex, scaleByComplex, inTriangle, updateRows, rows-next, rows-last, her2kChange, paired-kept}
 use Rattle.rank_complex.proofs.her2k_rows.Statement.{statement}
 use Rattle.rank_complex.proofs.her2k_rows.Tie as tie
 
@@ -6,9 +6,8 @@ abbrev Inv-loop : tie.InvT-loop
 Inv-loop alpha beta plan a b c₀ m i₀ c i = (i ≤ m) × (length c ≡ length c₀) × (c ≡ updateRows complex (plan .target) (inTriangle (plan .uplo)) (her2kChange complex plan a b (alpha) (scaleByComplex beta)) i c₀)
 
 pub her2k-rows-spec : {M : Type 1} → statement M
-unfolding updateRows
 her2k-rows-spec = tie.close (tie.spec
-    Inv-loop (λ alpha beta plan a b c₀ m i₀ c i. m - i) (λ c κs. tt) (λ c. (omega arith, refl, refl))
+    Inv-loop (λ alpha beta plan a b c₀ m i₀ c i. m - i) (λ c κs. tt) (λ c. (omega arith, refl, rows-begun _ _ _ _ _))
     (λ c κs. (paired-kept _ _ _ _ _ (ap (λ (n : ℕ). n / 2) (c .before .before .loop .inv .1)) (c .before .before .before .before .before .before .before .pre), omega (arith, c .before .before .before .rows .ensures)))
     (λ c. omega arith) (λ c. omega arith)
     (λ c. (omega arith, c .before .before .her2k-row .kept .1 .1 .1 .1 .1 .0 ∙ c .before .before .before .before .before .loop .inv .1, rows-next _ _ _ _ _ _ _ _ (c .before .before .before .before .before .loop .inv .2) (c .before .before .her2k-row .ensures)))

@@ -1,4 +1,4 @@
-use Rattle.rank_complex.proofs.Words.{ℕ, _≤_, _-_, _/_, _≡_, refl, ap, _∙_, arith, length, complex, inTriangle, elem, updateRows, rows-next, rows-last, herChange, one-kept}
+use Rattle.rank_complex.proofs.Words.{rows-begun, ℕ, _≤_, _-_, _/_, _≡_, refl, ap, _∙_, arith, length, complex, inTriangle, elem, updateRows, rows-next, rows-last, herChange, one-kept}
 use Rattle.rank_complex.proofs.her_rows.Statement.{statement}
 use Rattle.rank_complex.proofs.her_rows.Tie as tie
 
@@ -6,9 +6,8 @@ abbrev Inv-loop : tie.InvT-loop
 Inv-loop uplo alpha x vx a₀ va m i₀ a i = (i ≤ m) × (length a ≡ length a₀) × (a ≡ updateRows complex va (inTriangle uplo) (herChange complex alpha (elem complex x vx)) i a₀)
 
 pub her-rows-spec : {M : Type 1} → statement M
-unfolding updateRows
 her-rows-spec = tie.close (tie.spec
-    Inv-loop (λ uplo alpha x vx a₀ va m i₀ a i. m - i) (λ c κs. tt) (λ c. (omega arith, refl, refl))
+    Inv-loop (λ uplo alpha x vx a₀ va m i₀ a i. m - i) (λ c κs. tt) (λ c. (omega arith, refl, rows-begun _ _ _ _ _))
     (λ c κs. (one-kept _ _ _ _ _ (ap (λ (n : ℕ). n / 2) (c .before .before .loop .inv .1)) (c .before .before .before .before .before .before .pre), omega (arith, c .before .before .before .rows .ensures)))
     (λ c. omega arith) (λ c. omega arith)
     (λ c. let l = c .before .before .before .before .before .loop in

@@ -1,4 +1,4 @@
-use Rattle.rank_real64.proofs.Words.{_≤_, _-_, _≡_, refl, _∙_, arith, length, real64, inTriangle, elem, updateRows, rows-next, rows-last, her2Change, two-kept}
+use Rattle.rank_real64.proofs.Words.{rows-begun, _≤_, _-_, _≡_, refl, _∙_, arith, length, real64, inTriangle, elem, updateRows, rows-next, rows-last, her2Change, two-kept}
 use Rattle.rank_real64.proofs.her2_rows.Statement.{statement}
 use Rattle.rank_real64.proofs.her2_rows.Tie as tie
 
@@ -6,9 +6,8 @@ abbrev Inv-loop : tie.InvT-loop
 Inv-loop uplo alpha x vx y vy a₀ va m i₀ a i = (i ≤ m) × (length a ≡ length a₀) × (a ≡ updateRows real64 va (inTriangle uplo) (her2Change real64 (alpha .0) (elem real64 x vx) (elem real64 y vy)) i a₀)
 
 pub her2-rows-spec : {M : Type 1} → statement M
-unfolding updateRows
 her2-rows-spec = tie.close (tie.spec
-    Inv-loop (λ uplo alpha x vx y vy a₀ va m i₀ a i. m - i) (λ c κs. tt) (λ c. (omega arith, refl, refl))
+    Inv-loop (λ uplo alpha x vx y vy a₀ va m i₀ a i. m - i) (λ c κs. tt) (λ c. (omega arith, refl, rows-begun _ _ _ _ _))
     (λ c κs. (two-kept _ _ _ _ _ _ _ (c .before .before .loop .inv .1) (c .before .before .before .before .before .before .before .pre), omega (arith, c .before .before .before .rows .ensures)))
     (λ c. omega arith) (λ c. omega arith)
     (λ c. let l = c .before .before .before .before .before .loop in

@@ -1,4 +1,4 @@
-use Rattle.triangle_complex.proofs.Words.{rows-next, rows-last, updateRows, everywhere, complex, needs, length, _≤_, _-_, ℕ, _/_, _≡_, refl, _∙_, ap, row-in, arith}
+use Rattle.triangle_complex.proofs.Words.{rows-begun, rows-next, rows-last, updateRows, everywhere, complex, needs, length, _≤_, _-_, ℕ, _/_, _≡_, refl, _∙_, ap, row-in, arith}
 use Rattle.triangle_complex.proofs.scale.Statement.{statement}
 use Rattle.triangle_complex.proofs.scale.Tie as tie
 
@@ -6,9 +6,8 @@ abbrev Inv-loop : tie.InvT-loop
 Inv-loop alpha b₀ vb m i₀ b i = (i ≤ m) × (length b ≡ length b₀) × (b ≡ updateRows complex vb everywhere (λ i j x. complex .mul alpha x) i b₀)
 
 pub scale-spec : {M : Type 1} → statement M
-unfolding updateRows
 scale-spec = tie.close (tie.spec
-    Inv-loop (λ alpha b₀ vb m i₀ b i. m - i) (λ c κs. search needs) (λ c. (omega arith, refl, refl))
+    Inv-loop (λ alpha b₀ vb m i₀ b i. m - i) (λ c κs. search needs) (λ c. (omega arith, refl, rows-begun _ _ _ _ _))
     (λ c κs. row-in _ _ _ _ _ (c .before .before .before .before .before .pre) (ap (λ (n : ℕ). n / 2) (c .before .before .loop .inv .1)) (c .before .before .before .rows .ensures) (c .before .loop-test .taken))
     (λ c. omega arith) (λ c. omega arith)
     (λ c. (omega arith, c .before .before .scale-row .kept .1 .0 ∙ c .before .before .before .before .before .loop .inv .1, rows-next _ _ _ _ _ _ _ _ (c .before .before .before .before .before .loop .inv .2) (c .before .before .scale-row .ensures)))

@@ -1,4 +1,4 @@
-use Rattle.triangle_complex.proofs.Words.{row-next, row-last, updateRow, everywhere, in-row, complex, needs, length, _≤_, _-_, ℕ, _/_, _≡_, refl, _∙_, ap, arith}
+use Rattle.triangle_complex.proofs.Words.{row-begun, row-next, row-last, updateRow, everywhere, in-row, complex, needs, length, _≤_, _-_, ℕ, _/_, _≡_, refl, _∙_, ap, arith}
 use Rattle.triangle_complex.proofs.scale_row.Statement.{statement}
 use Rattle.triangle_complex.proofs.scale_row.Tie as tie
 
@@ -6,9 +6,8 @@ abbrev Inv-loop : tie.InvT-loop
 Inv-loop alpha b₀ vb i n j₀ b j = (j ≤ n) × (length b ≡ length b₀) × (b ≡ updateRow complex vb everywhere (λ i j x. complex .mul alpha x) i j b₀)
 
 pub scale-row-spec : {M : Type 1} → statement M
-unfolding updateRow
 scale-row-spec = tie.close (tie.spec
-    Inv-loop (λ alpha b₀ vb i n j₀ b j. n - j) (λ c κs. search needs) (λ c. (omega arith, refl, refl))
+    Inv-loop (λ alpha b₀ vb i n j₀ b j. n - j) (λ c κs. search needs) (λ c. (omega arith, refl, row-begun _ _ _ _ _ _))
     (λ c κs. in-row _ _ _ _ _ _ (c .before .before .before .before .before .pre .0) (ap (λ (n : ℕ). n / 2) (c .before .before .loop .inv .1)) (c .before .before .before .before .before .pre .1) (c .before .before .before .cols .ensures) (c .before .loop-test .taken))
     (λ c. omega arith) (λ c. omega arith)
     (λ c. (omega arith, c .before .before .scale-one .kept .1 .0 ∙ c .before .before .before .before .before .loop .inv .1, row-next _ _ _ _ _ _ _ _ _ (c .before .before .before .before .before .loop .inv .2) (c .before .before .scale-one .ensures)))
