@@ -1,7 +1,7 @@
 -- Reading and replacing an element of a slab, for the real kinds and for complex numbers.
-use Prim.Native.Nat.{ℕ, _+_, _*_, _/_, _<_}
+use Prim.Native.Nat.{ℕ, zero, suc, _+_, _*_, _/_, _<_}
 use mathlib.Core.Bool.{Bool}
-use mathlib.Core.List.{List}
+use mathlib.Core.List.{List, [], _∷_}
 use mathlib.Core.Path.{_≡_, refl, sym, ap, _∙_}
 use native.Mathlib.Decide.{ℕ-discrete, decLt}
 use native.Mathlib.Omega.{arith}
@@ -10,7 +10,7 @@ use lib.Ieee.{Float, Format, binary64, nan, fits}
 use lib.Ieee.Fits.{nan-fits}
 use lib.ListN.{length, getD, set, length-set, List·getD-eq-default}
 use lib.Seq.{getD-set-same, getD-set-other}
-use Rattle.number.specs.Kind.{real, real64, complex, sameFloat, Same, Holds}
+use Rattle.number.specs.Kind.{Kind, real, real64, complex, sameFloat, Same, Holds}
 use Rattle.number.specs.Laws.{SlabLaws, Held, SameSlab}
 use Rattle.number.specs.declared.Complex.{Complex}
 use Rattle.number.proofs.Negation.{sameFloat-refl}
@@ -124,3 +124,36 @@ complex-slab =
     put-same : {s t : List Float} {x y : Complex} (k : ℕ) → SameSlab complex s t → Same complex x y
         → SameSlab real64 (complex .put s k x) (complex .put t k y)
     put-same k h r = L .put-same (2 * k + 1) (L .put-same (2 * k) (real-same h) (same-re r)) (same-im r)
+
+-- ---- replacing two elements, in either order
+
+pub record Swaps (K : Kind) : Type 0 where
+  pub swap : (s : List (K .Cell)) (k j : ℕ) (x y : K .Elem) → (j ≡ k → ⊥) → K .put (K .put s k x) j y ≡ K .put (K .put s j y) k x
+
+pub set-swap : {A : Type 0} (s : List A) (k j : ℕ) (x y : A) → (j ≡ k → ⊥) → set (set s k x) j y ≡ set (set s j y) k x
+set-swap [] k j x y h = refl
+set-swap (z ∷ s) zero zero x y h = absurd (h refl)
+set-swap (z ∷ s) zero (suc j) x y h = refl
+set-swap (z ∷ s) (suc k) zero x y h = refl
+set-swap (z ∷ s) (suc k) (suc j) x y h = ap (λ (r : List _). z ∷ r) (set-swap s k j x y (λ e. h (ap suc e)))
+
+pub real-swaps : (f : Format) → Swaps (real f)
+real-swaps f = record { swap = λ s k j x y h. set-swap s k j x y h }
+
+-- four swaps, of each part with each
+pub complex-swaps : Swaps complex
+complex-swaps = record {
+  swap = λ s k j x y h.
+      ap (λ (r : List Float). set r (2 * j + 1) (y .im)) (
+      set-swap (set s (2 * k) (x .re)) (2 * k + 1) (2 * j) (x .im) (y .re) (λ e. omega arith)
+      ∙ ap (λ (r : List Float). set r (2 * k + 1) (x .im)) (set-swap s (2 * k) (2 * j) (x .re) (y .re) (λ e. h (half j k e)))
+      )
+      ∙ set-swap (set (set s (2 * j) (y .re)) (2 * k) (x .re)) (2 * k + 1) (2 * j + 1) (x .im) (y .im) (λ e. h (half' j k e))
+      ∙ ap (λ (r : List Float). set r (2 * k + 1) (x .im)) (set-swap (set s (2 * j) (y .re)) (2 * k) (2 * j + 1) (x .re) (y .im) (λ e. omega arith));
+}
+  where
+    half : (j k : ℕ) → 2 * j ≡ 2 * k → j ≡ k
+    half j k e = omega arith
+
+    half' : (j k : ℕ) → 2 * j + 1 ≡ 2 * k + 1 → j ≡ k
+    half' j k e = omega arith

@@ -3,7 +3,7 @@ use lib.Ieee.{binary32}
 use Rattle.number.specs.Kind.{real32}
 use Rattle.number.specs.Laws.{SlabLaws}
 use Rattle.number.proofs.Commutes.{Commutes, SelfConjugate, real-commutes, real-self-conjugate}
-use Rattle.number.proofs.SlabLaws.{real-slab}
+use Rattle.number.proofs.SlabLaws.{Swaps, real-slab, real-swaps}
 pub use Rattle.number.proofs.Instances.{real32-laws as laws}
 pub use Rattle.number.proofs.Literals.{one-literal32 as one-literal}
 pub use Rattle.number.proofs.ScalingLaws.{scale32 as scale-by, scale32 as scale-by-real}
@@ -16,3 +16,6 @@ commutes = real-commutes binary32
 
 pub self-conjugate : SelfConjugate real32
 self-conjugate = real-self-conjugate binary32
+
+pub swaps : Swaps real32
+swaps = real-swaps binary32

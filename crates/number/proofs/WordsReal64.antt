@@ -3,7 +3,7 @@ use lib.Ieee.{binary64}
 use Rattle.number.specs.Kind.{real64}
 use Rattle.number.specs.Laws.{SlabLaws}
 use Rattle.number.proofs.Commutes.{Commutes, SelfConjugate, real-commutes, real-self-conjugate}
-use Rattle.number.proofs.SlabLaws.{real-slab}
+use Rattle.number.proofs.SlabLaws.{Swaps, real-slab, real-swaps}
 pub use Rattle.number.proofs.Instances.{real64-laws as laws}
 pub use Rattle.number.proofs.Literals.{one-literal64 as one-literal}
 pub use Rattle.number.proofs.ScalingLaws.{scale64 as scale-by, scale64 as scale-by-real}
@@ -16,3 +16,6 @@ commutes = real-commutes binary64
 
 pub self-conjugate : SelfConjugate real64
 self-conjugate = real-self-conjugate binary64
+
+pub swaps : Swaps real64
+swaps = real-swaps binary64

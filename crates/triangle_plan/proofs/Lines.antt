@@ -7,6 +7,7 @@ use mathlib.Core.Path.{_≡_, refl, ap, sym, _∙_}
 use native.Mathlib.Omega.{arith}
 use Rattle.number.specs.Kind.{Kind}
 use Rattle.number.specs.Laws.{SlabLaws}
+use Rattle.number.proofs.SlabLaws.{Swaps}
 use Rattle.view.specs.declared.View.{View}
 use Rattle.view.specs.Place.{index}
 use Rattle.slab.specs.Distinct.{Distinct}
@@ -20,7 +21,6 @@ use Rattle.triangle_plan.specs.Eights.{putEight}
 use Rattle.triangle_plan.specs.Triangles.{coefficient}
 use Rattle.triangle_plan.specs.Solve.{byDiag, unknownValue, solveUnknown, solveUnknowns}
 use Rattle.triangle_plan.specs.Multiply.{ownDiag, own, lineTerm, lineSum, multiplyOne, multiplyAcross, multiplyAll}
-use Rattle.triangle_plan.proofs.InOrder.{Swaps}
 use Rattle.triangle_plan.proofs.LineSums.{more-cong}
 use Rattle.triangle_plan.proofs.WalkLaws.{walk-exchange}
 

@@ -10,6 +10,7 @@ use lib.Arith.{digits-div, digits-mod, digits-lt}
 use lib.Dec.{ltb, leb}
 use Rattle.number.specs.Kind.{Kind}
 use Rattle.number.specs.Laws.{SlabLaws}
+use Rattle.number.proofs.SlabLaws.{Swaps}
 use Rattle.view.specs.declared.View.{View}
 use Rattle.view.specs.declared.Trans.{Trans}
 use Rattle.view.specs.declared.UpLo.{UpLo}
@@ -33,7 +34,7 @@ use Rattle.triangle_plan.specs.Walk.{walk}
 use Rattle.triangle_plan.specs.Triangles.{linesView, systemOf}
 use Rattle.triangle_plan.specs.Multiply.{lineSum, multiplyOne, multiplyAll}
 use Rattle.triangle_plan.proofs.WalkLaws.{walk-cong, walk-nested}
-use Rattle.triangle_plan.proofs.InOrder.{Swaps, one-more}
+use Rattle.triangle_plan.proofs.InOrder.{one-more}
 use Rattle.number.proofs.Commutes.{Commutes}
 use Rattle.triangle_plan.proofs.Systems.{turn, line, lines-index}
 use Rattle.triangle_plan.proofs.LineSums.{goesInto, weighs, lineDot, line-sum-is}

@@ -5,6 +5,7 @@ use mathlib.Core.List.{List}
 use mathlib.Core.Path.{_≡_, refl, ap, _∙_}
 use Rattle.number.specs.Kind.{Kind}
 use Rattle.number.specs.Laws.{SlabLaws}
+use Rattle.number.proofs.SlabLaws.{Swaps}
 use Rattle.view.specs.declared.View.{View}
 use Rattle.view.specs.declared.Answer.{Answer}
 use Rattle.view.specs.declared.Trans.{Trans}
@@ -23,7 +24,6 @@ use Rattle.blas.proofs.OutcomeLaws.{gives-work, gives-refusal}
 use Rattle.triangle_plan.specs.declared.System.{System}
 use Rattle.triangle_plan.specs.Triangles.{systemOf}
 use Rattle.triangle_plan.specs.Multiply.{multiplyAll}
-use Rattle.triangle_plan.proofs.InOrder.{Swaps}
 use Rattle.number.proofs.Commutes.{Commutes}
 use Rattle.triangle_plan.proofs.Judged.{vector-runs, matrix-runs, all-inside}
 use Rattle.triangle_plan.proofs.Multiplies.{multiplied-all}

@@ -11,6 +11,7 @@ use lib.Arith.{digits-lt, digits-div, digits-mod}
 use lib.Dec.{ltb}
 use Rattle.number.specs.Kind.{Kind}
 use Rattle.number.specs.Laws.{SlabLaws}
+use Rattle.number.proofs.SlabLaws.{Swaps}
 use Rattle.view.specs.declared.View.{View}
 use Rattle.view.specs.declared.Answer.{Answer}
 use Rattle.view.specs.declared.Answer.the-variants.{Done, Singular}
@@ -37,7 +38,6 @@ use Rattle.triangle_plan.specs.Walk.{walk}
 use Rattle.triangle_plan.specs.Triangles.{linesView, systemOf, coefficient}
 use Rattle.triangle_plan.specs.Solve.{byDiag, zeroDiag, solveUnknown, solveUnknowns, zeroAfter, firstZero, stops, answered, linesSolved, Solved}
 use Rattle.triangle_plan.proofs.WalkLaws.{walk-cong, walk-nested, walk-rounds}
-use Rattle.triangle_plan.proofs.InOrder.{Swaps}
 use Rattle.number.proofs.Commutes.{Commutes}
 use Rattle.triangle_plan.proofs.Lines.{line-after-line}
 use Rattle.triangle_plan.proofs.Systems.{opSided, coefficient-is, diagonal-is, turn, line, lines-index, lines-elem}
