@@ -1,8 +1,11 @@
 -- The laws of f64 by the names that a text for several kinds uses.
-use lib.Ieee.{binary64}
-use Rattle.number.specs.Kind.{real64}
+use mathlib.Core.Path.{_≡_}
+use lib.Ieee.{binary64, ofBits}
+use borrow.Kind.Array.{Elem, eFloat}
+use Rattle.number.specs.Kind.{real64, zeroFloat}
 use Rattle.number.specs.Laws.{SlabLaws}
 use Rattle.number.proofs.Commutes.{Commutes, SelfConjugate, real-commutes, real-self-conjugate}
+use Rattle.number.proofs.Literals.{zero-literal as zero-of}
 use Rattle.number.proofs.SlabLaws.{Swaps, real-slab, real-swaps}
 pub use Rattle.number.proofs.Instances.{real64-laws as laws}
 pub use Rattle.number.proofs.Literals.{one-literal64 as one-literal}
@@ -19,3 +22,10 @@ self-conjugate = real-self-conjugate binary64
 
 pub swaps : Swaps real64
 swaps = real-swaps binary64
+
+pub zero-literal : ofBits binary64 0 ≡ zeroFloat
+zero-literal = zero-of binary64
+
+-- what an array of them holds
+abbrev pub cell : Elem
+cell = eFloat binary64

@@ -1,7 +1,7 @@
 // gemv, element by element or eight rows at a time.
 
 ghost use mathlib.Core.Path.{_≡_};
-ghost use Prim.Native.Nat.{_<_, _≤_, _+_, _-_};
+ghost use Prim.Native.Nat.{_≤_, _+_, _-_};
 ghost use Rattle.number.specs.WordsReal64.{K, scaleBy, value};
 ghost use Rattle.view.specs.Steps.{Accepted};
 ghost use Rattle.slab.specs.Eight.{Eight, Block};

@@ -2,7 +2,7 @@
 
 ghost use mathlib.Core.Path.{_≡_};
 ghost use mathlib.Core.Bool.{true};
-ghost use Prim.Native.Nat.{_<_, _+_, _-_};
+ghost use Prim.Native.Nat.{_<_};
 ghost use Rattle.number.specs.WordsReal64.{K, scaleBy, value};
 ghost use Rattle.slab.specs.Elem.{lent};
 ghost use Rattle.slab.specs.Update.{everywhere, updateRow, update};

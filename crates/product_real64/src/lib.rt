@@ -3,20 +3,12 @@
 
 mod element;
 mod folded;
-mod gemm;
-mod gemv;
-mod hemm;
-mod hemv;
-mod herk;
+pub mod gemm;
+pub mod gemv;
+pub mod hemm;
+pub mod hemv;
+pub mod herk;
 mod kind;
-mod symm;
-mod syrk;
+pub mod symm;
+pub mod syrk;
 mod triangle;
-
-pub use gemm::gemm;
-pub use gemv::gemv;
-pub use hemm::hemm;
-pub use hemv::hemv;
-pub use herk::herk;
-pub use symm::symm;
-pub use syrk::syrk;

@@ -1,7 +1,7 @@
 // The named triangle of a target, eight columns at a time.
 
 ghost use mathlib.Core.Path.{_≡_};
-ghost use Prim.Native.Nat.{_<_, _≤_, _+_};
+ghost use Prim.Native.Nat.{_<_, _≤_};
 ghost use Rattle.number.specs.WordsReal64.{K, scaleBy, value};
 ghost use Rattle.view.specs.Triangle.{inTriangle};
 ghost use Rattle.slab.specs.Update.{updateRow, update};

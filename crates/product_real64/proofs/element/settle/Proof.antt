@@ -1,4 +1,4 @@
-use Rattle.product_real64.proofs.Words.{arith, now, needs, scaleBy64, real64, shown, inside, put-replaced}
+use Rattle.product_real64.proofs.Words.{arith, now, needs, shown, inside, put-replaced, K, scaleBy, value}
 use Rattle.product_real64.proofs.element.settle.Statement.{statement}
 use Rattle.product_real64.proofs.element.settle.Tie as tie
 
@@ -8,4 +8,4 @@ settle-spec = tie.close (tie.spec
     (λ c κs. tt) (λ c κs. tt) (λ c κs. tt)
     (λ c κs. inside _ _ _ _ (c .before .before .before .before .before .before .before .before .pre) _ (c .before .before .before .before .before .before .place .ensures))
     (λ c. search needs)
-    (λ c. let p = c .before .before .before .before .before .before .before .before .before .before .before .args in put-replaced real64 (p .v) (p .i) (p .j) (scaleBy64 (p .beta)) (real64 .mul (p .alpha .0)) (p .sum .0) (now (p .c)) _ _ _ _ _ _ (c .before .before .before .before .before .before .before .before .before .place .ensures) (c .before .before .before .before .before .before .before .get .ensures) (c .before .before .before .before .before .scale .ensures) (c .before .before .before .before .mul .ensures) (c .before .before .before .add .ensures) (c .before .before .put .ensures)))
+    (λ c. let p = c .before .before .before .before .before .before .before .before .before .before .before .args in put-replaced K (p .v) (p .i) (p .j) (scaleBy (p .beta)) (K .mul (value (p .alpha))) (value (p .sum)) (now (p .c)) _ _ _ _ _ _ (c .before .before .before .before .before .before .before .before .before .place .ensures) (c .before .before .before .before .before .before .before .get .ensures) (c .before .before .before .before .before .scale .ensures) (c .before .before .before .before .mul .ensures) (c .before .before .before .add .ensures) (c .before .before .put .ensures)))

@@ -1,15 +1,15 @@
 -- Each of the eight sums in its turn (slab: EightLaws).
-use Rattle.product_real64.proofs.Words.{_+_, _-_, _∙_, arith, binary64, now, good-length, eFloat, real64, real-slab, Part, part-start, part-next, part-end, plusTerms, term, turnedSum, nearer}
+use Rattle.product_real64.proofs.Words.{_+_, _-_, _∙_, arith, now, good-length, cell, Part, part-start, part-next, part-end, plusTerms, term, turnedSum, nearer, slab, K}
 use Rattle.product_real64.proofs.folded.add_turns.Statement.{statement}
 use Rattle.product_real64.proofs.folded.add_turns.Tie as tie
 
 abbrev Inv-loop : tie.InvT-loop
-Inv-loop plan a b i j from end turn n totals₀ t₀ totals t = Part real64 (λ q. turnedSum real64 plan a b i (j + q) from end (real64 .at totals₀ q)) totals₀ totals t
+Inv-loop plan a b i j from end turn n totals₀ t₀ totals t = Part K (λ q. turnedSum K plan a b i (j + q) from end (K .at totals₀ q)) totals₀ totals t
 
 pub add-turns-spec : {M : Type 1} → statement M
 add-turns-spec = tie.close (tie.spec
     Inv-loop (λ plan a b i j from end turn n totals₀ t₀ totals t. 8 - t)
-    (λ c. part-start real64 (real-slab binary64) _ _ (good-length (eFloat binary64) 8 (c .before .before .args .sums) _ (c .before .before .good .1 .1 .1 .1 .1 .1 .1 .0)))
+    (λ c. part-start K slab _ _ (good-length cell 8 (c .before .before .args .sums) _ (c .before .before .good .1 .1 .1 .1 .1 .1 .1 .0)))
     (λ c. omega (arith, c .before .before .before .before .pre .near))
     (λ c κs. let r = c .before .before .before .before .pre in omega (arith, r .high (c .before .loop .t) (omega arith), r .room))
     (λ c. omega (arith, c .before .before .before .before .before .pre .near)) (λ c. omega arith) (λ c. omega arith)
@@ -22,7 +22,7 @@ add-turns-spec = tie.close (tie.spec
     (λ c. omega arith) (λ c. omega arith) (λ c. omega arith) (λ c. omega arith)
     (λ c. let p = c .before .before .before .before .before .before .args in
     let l = c .before .before .before .loop in
-    part-next real64 (real-slab binary64) _ _ (l .totals) (l .t) _ (omega arith) (l .inv)
+    part-next K slab _ _ (l .totals) (l .t) _ (omega arith) (l .inv)
     (c .add-turned .ensures
-    ∙ (λ i. plusTerms real64 (plusTerms real64 (l .inv .rest (l .t) (omega arith) i) (term real64 (p .plan .head) (now (p .a)) (now (p .b)) (p .i) (p .j + l .t)) (p .from) (c .before .turn-at .ensures i - p .from)) (term real64 (p .plan .tail) (now (p .a)) (now (p .b)) (p .i) (p .j + l .t)) (c .before .turn-at .ensures i) (p .end - c .before .turn-at .ensures i))))
-    (λ c. let l = c .before .loop in part-end real64 (real-slab binary64) _ _ (l .totals) (l .t) (omega arith) (l .inv)))
+    ∙ (λ i. plusTerms K (plusTerms K (l .inv .rest (l .t) (omega arith) i) (term K (p .plan .head) (now (p .a)) (now (p .b)) (p .i) (p .j + l .t)) (p .from) (c .before .turn-at .ensures i - p .from)) (term K (p .plan .tail) (now (p .a)) (now (p .b)) (p .i) (p .j + l .t)) (c .before .turn-at .ensures i) (p .end - c .before .turn-at .ensures i))))
+    (λ c. let l = c .before .loop in part-end K slab _ _ (l .totals) (l .t) (omega arith) (l .inv)))

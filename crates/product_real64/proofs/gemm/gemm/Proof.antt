@@ -1,4 +1,4 @@
-use Rattle.product_real64.proofs.Words.{_∙_, ap, refl, needs, real64, scaleBy64, scale64, gemm-refused, gemm-planned, gemm-runs, gemm-done}
+use Rattle.product_real64.proofs.Words.{_∙_, ap, refl, needs, gemm-refused, gemm-planned, gemm-runs, gemm-done, scale-by, K, scaleBy}
 use Rattle.product_real64.proofs.gemm.gemm.Statement.{statement}
 use Rattle.product_real64.proofs.gemm.gemm.Tie as tie
 
@@ -15,5 +15,5 @@ gemm-spec = tie.close (tie.spec
     (λ c. let s = c .before .before .before .before .before in
     let g = s .before .before .before .before .before .before .before .before .before .before .before .before .args in
     let p = gemm-planned (g .ta) (g .tb) (g .va) (g .vb) (g .vc) _ _ _ _ _ (s .before .before .before .before .before .before .before .before .op-view .ensures) (s .before .before .conjugates .ensures) (s .before .before .before .before .before .before .before .op-view2 .ensures) (s .before .conjugates2 .ensures) (s .gemm-plan .ensures) in
-    gemm-done real64 _ _ _ _ _ _ _ _ _ (s .before .before .before .before .before .check-gemm .ensures) (s .before .before .before .before .passed .ensures) (s .before .before .before .if1 .taken) _ _ _ _ p (ap scaleBy64 (c .before .before .before .before .judge .ensures) ∙ scale64 _) refl (c .before .before .run .ensures))
-    (λ c. gemm-refused real64 _ _ _ _ _ _ _ _ _ (c .before .before .check-gemm .ensures) (c .before .passed .ensures) (c .if1 .left)))
+    gemm-done K _ _ _ _ _ _ _ _ _ (s .before .before .before .before .before .check-gemm .ensures) (s .before .before .before .before .passed .ensures) (s .before .before .before .if1 .taken) _ _ _ _ p (ap scaleBy (c .before .before .before .before .judge .ensures) ∙ scale-by _) refl (c .before .before .run .ensures))
+    (λ c. gemm-refused K _ _ _ _ _ _ _ _ _ (c .before .before .check-gemm .ensures) (c .before .passed .ensures) (c .if1 .left)))

@@ -1,10 +1,10 @@
 -- Block after block is the row so far.
-use Rattle.product_real64.proofs.Words.{row-begun, _≤_, _-_, _≡_, refl, _∙_, arith, length, real64, scaleBy64, everywhere, updateRow, row-last, span-after, planChange, ready-kept}
+use Rattle.product_real64.proofs.Words.{row-begun, _≤_, _-_, _≡_, refl, _∙_, arith, length, everywhere, updateRow, row-last, span-after, planChange, ready-kept, K, scaleBy, value}
 use Rattle.product_real64.proofs.gemm.wide_row.Statement.{statement}
 use Rattle.product_real64.proofs.gemm.wide_row.Tie as tie
 
 abbrev Inv-loop : tie.InvT-loop
-Inv-loop plan a b alpha beta c₀ i n j₀ c j = (j ≤ n) × (length c ≡ length c₀) × (c ≡ updateRow real64 (plan .target) everywhere (planChange real64 plan (scaleBy64 beta) (real64 .mul (alpha .0)) a b) i j c₀)
+Inv-loop plan a b alpha beta c₀ i n j₀ c j = (j ≤ n) × (length c ≡ length c₀) × (c ≡ updateRow K (plan .target) everywhere (planChange K plan (scaleBy beta) (K .mul (value alpha)) a b) i j c₀)
 
 pub wide-row-spec : {M : Type 1} → statement M
 wide-row-spec = tie.close (tie.spec
@@ -18,6 +18,6 @@ wide-row-spec = tie.close (tie.spec
     (λ c. omega (arith, c .before .before .before .before .block-start .ensures .1, c .before .before .before .before .block-start .ensures .2))
     (λ c. let l = c .before .before .before .before .before .before .loop in
     let s = c .before .before .before .before .block-start .ensures in
-    (omega (arith, s .2), c .before .before .block .kept .1 .1 .1 .1 .1 .0 ∙ l .inv .1, span-after real64 _ _ _ everywhere (l .j) _ _ _ _ (omega (arith, s .1)) (λ j h g. refl) (l .inv .2) (c .before .before .block .ensures)))
+    (omega (arith, s .2), c .before .before .block .kept .1 .1 .1 .1 .1 .0 ∙ l .inv .1, span-after K _ _ _ everywhere (l .j) _ _ _ _ (omega (arith, s .1)) (λ j h g. refl) (l .inv .2) (c .before .before .block .ensures)))
     (λ c. c .before .loop .inv .1)
     (λ c. row-last _ _ _ _ _ _ _ _ _ (c .before .before .cols .ensures) (c .before .loop .inv .0) (omega arith) (c .before .loop .inv .2)))

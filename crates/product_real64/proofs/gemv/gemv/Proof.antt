@@ -1,4 +1,4 @@
-use Rattle.product_real64.proofs.Words.{_∙_, ap, refl, needs, real64, scaleBy64, scale64, gemv-refused, gemv-vectors, gemv-planned, gemv-runs, gemv-done}
+use Rattle.product_real64.proofs.Words.{_∙_, ap, refl, needs, gemv-refused, gemv-vectors, gemv-planned, gemv-runs, gemv-done, scale-by, K, scaleBy}
 use Rattle.product_real64.proofs.gemv.gemv.Statement.{statement}
 use Rattle.product_real64.proofs.gemv.gemv.Tie as tie
 
@@ -16,5 +16,5 @@ gemv-spec = tie.close (tie.spec
     (λ c. let s = c .before .before .before .before .before in
     let g = s .before .before .before .before .before .before .before .before .before .before .args in
     let p = gemv-planned (g .trans) (g .va) (g .vx) (g .vy) _ _ _ (s .before .before .before .before .before .before .op-view .ensures) (s .before .conjugates .ensures) (s .gemv-plan .ensures) in
-    gemv-done real64 _ _ _ _ _ _ _ _ (s .before .before .before .before .check-gemv .ensures) (s .before .before .before .passed .ensures) (s .before .before .if1 .taken) _ _ _ _ p (ap scaleBy64 (c .before .before .before .before .judge .ensures) ∙ scale64 _) refl (c .before .before .run-column .ensures))
-    (λ c. gemv-refused real64 _ _ _ _ _ _ _ _ (c .before .before .check-gemv .ensures) (c .before .passed .ensures) (c .if1 .left)))
+    gemv-done K _ _ _ _ _ _ _ _ (s .before .before .before .before .check-gemv .ensures) (s .before .before .before .passed .ensures) (s .before .before .if1 .taken) _ _ _ _ p (ap scaleBy (c .before .before .before .before .judge .ensures) ∙ scale-by _) refl (c .before .before .run-column .ensures))
+    (λ c. gemv-refused K _ _ _ _ _ _ _ _ (c .before .before .check-gemv .ensures) (c .before .passed .ensures) (c .if1 .left)))

@@ -1,4 +1,4 @@
-use Rattle.product_real64.proofs.Words.{_∙_, ap, refl, needs, real64, scaleBy64, scale64, hemv-refused, hemv-vectors, hemv-runs, hemv-done}
+use Rattle.product_real64.proofs.Words.{_∙_, ap, refl, needs, hemv-refused, hemv-vectors, hemv-runs, hemv-done, scale-by, K, scaleBy}
 use Rattle.product_real64.proofs.hemv.hemv.Statement.{statement}
 use Rattle.product_real64.proofs.hemv.hemv.Tie as tie
 
@@ -9,5 +9,5 @@ hemv-spec = tie.close (tie.spec
     (λ c κs. tt)
     (λ c κs. let h = hemv-runs (c .before .before .before .before .before .before .before .before .before .before .args .uplo) _ _ _ _ _ _ _ _ (c .before .before .before .before .before .check-hemv .ensures) (c .before .before .before .before .passed .ensures) (c .before .before .before .if1 .taken) _ (c .before .before .hemv-plan .ensures) in (h .0, h .2))
     (λ c. search needs)
-    (λ c. hemv-done real64 _ _ _ _ _ _ _ _ (c .before .before .before .before .before .before .before .before .check-hemv .ensures) (c .before .before .before .before .before .before .before .passed .ensures) (c .before .before .before .before .before .before .if1 .taken) _ _ _ _ (c .before .before .before .before .before .hemv-plan .ensures) (ap scaleBy64 (c .before .before .before .before .judge .ensures) ∙ scale64 _) refl (c .before .before .run-left-column .ensures))
-    (λ c. hemv-refused real64 _ _ _ _ _ _ _ _ (c .before .before .check-hemv .ensures) (c .before .passed .ensures) (c .if1 .left)))
+    (λ c. hemv-done K _ _ _ _ _ _ _ _ (c .before .before .before .before .before .before .before .before .check-hemv .ensures) (c .before .before .before .before .before .before .before .passed .ensures) (c .before .before .before .before .before .before .if1 .taken) _ _ _ _ (c .before .before .before .before .before .hemv-plan .ensures) (ap scaleBy (c .before .before .before .before .judge .ensures) ∙ scale-by _) refl (c .before .before .run-left-column .ensures))
+    (λ c. hemv-refused K _ _ _ _ _ _ _ _ (c .before .before .check-hemv .ensures) (c .before .passed .ensures) (c .if1 .left)))

@@ -1,9 +1,9 @@
-use Rattle.product_real64.proofs.Words.{rows-begun, _≤_, _-_, _≡_, refl, _∙_, arith, length, real64, scaleBy64, everywhere, updateRows, rows-next, rows-last, foldedChange, folded-kept}
+use Rattle.product_real64.proofs.Words.{rows-begun, _≤_, _-_, _≡_, refl, _∙_, arith, length, everywhere, updateRows, rows-next, rows-last, foldedChange, folded-kept, K, scaleBy, value}
 use Rattle.product_real64.proofs.symm.symm_right_small.Statement.{statement}
 use Rattle.product_real64.proofs.symm.symm_right_small.Tie as tie
 
 abbrev Inv-loop : tie.InvT-loop
-Inv-loop plan a b alpha beta c₀ m i₀ c i = (i ≤ m) × (length c ≡ length c₀) × (c ≡ updateRows real64 (plan .target) everywhere (foldedChange real64 plan (scaleBy64 beta) (real64 .mul (alpha .0)) a b) i c₀)
+Inv-loop plan a b alpha beta c₀ m i₀ c i = (i ≤ m) × (length c ≡ length c₀) × (c ≡ updateRows K (plan .target) everywhere (foldedChange K plan (scaleBy beta) (K .mul (value alpha)) a b) i c₀)
 
 pub symm-right-small-spec : {M : Type 1} → statement M
 symm-right-small-spec = tie.close (tie.spec
