@@ -1,6 +1,8 @@
 -- The laws of f32 by the names that a text for several kinds uses.
+use mathlib.Core.List.{List}
 use mathlib.Core.Path.{_≡_}
-use lib.Ieee.{binary32, ofBits}
+use lib.Ieee.{Float, binary32, ofBits}
+use lib.ListN.{length}
 use borrow.Kind.Array.{Elem, eFloat}
 use Rattle.number.specs.Kind.{real32, zeroFloat}
 use Rattle.number.specs.Laws.{SlabLaws}
@@ -29,3 +31,7 @@ zero-literal = zero-of binary32
 -- what an array of them holds
 abbrev pub cell : Elem
 cell = eFloat binary32
+
+-- slabs of one length have as many elements
+pub counted : (s t : List Float) → length s ≡ length t → real32 .count s ≡ real32 .count t
+counted s t e = e

@@ -1,6 +1,8 @@
 -- The laws of f64 by the names that a text for several kinds uses.
+use mathlib.Core.List.{List}
 use mathlib.Core.Path.{_≡_}
-use lib.Ieee.{binary64, ofBits}
+use lib.Ieee.{Float, binary64, ofBits}
+use lib.ListN.{length}
 use borrow.Kind.Array.{Elem, eFloat}
 use Rattle.number.specs.Kind.{real64, zeroFloat}
 use Rattle.number.specs.Laws.{SlabLaws}
@@ -29,3 +31,7 @@ zero-literal = zero-of binary64
 -- what an array of them holds
 abbrev pub cell : Elem
 cell = eFloat binary64
+
+-- slabs of one length have as many elements
+pub counted : (s t : List Float) → length s ≡ length t → real64 .count s ≡ real64 .count t
+counted s t e = e

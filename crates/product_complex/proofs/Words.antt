@@ -2,15 +2,13 @@
 pub use Prim.Native.Nat.{_+_, _-_, _/_, _≤_, ℕ}
 pub use mathlib.Core.Path.{_∙_, _≡_, ap, refl}
 pub use native.Mathlib.Omega.{arith}
-pub use lib.Ieee.{binary64}
 pub use lib.ListN.{length}
 pub use denote.Ref.{now}
 pub use borrow.Author.Needs.{needs}
+pub use Rattle.number.specs.WordsComplex.{K, scaleBy}
+pub use Rattle.number.proofs.WordsComplex.{scale-by, scale-by-real, zero-literal}
 pub use Rattle.blas.specs.Matrix.{accumulate, sum}
-pub use Rattle.number.proofs.Literals.{zero-literal}
-pub use Rattle.number.proofs.ScalingLaws.{scale-complex, scale-real}
-pub use Rattle.number.specs.Kind.{complex}
-pub use Rattle.number.specs.Scaling.{scaleByComplex, times}
+pub use Rattle.number.specs.Scaling.{times}
 pub use Rattle.product_plan.proofs.Eights.{block-settled, sums-end, sums-next, sums-start}
 pub use Rattle.product_plan.proofs.Kernels.{gemm-done, gemm-planned, gemm-refused, gemm-runs, gemv-done, gemv-plain, gemv-planned, gemv-refused, gemv-runs, gemv-vectors, hemm-done, hemm-refused, hemm-runs, hemv-done, hemv-refused, hemv-runs, hemv-vectors, herk-done, herk-refused, herk-runs, symm-done, symm-refused, symm-runs, syrk-done, syrk-refused, syrk-runs}
 pub use Rattle.product_plan.proofs.Ready.{accepted-kept, folded-kept, ready-kept, spans}

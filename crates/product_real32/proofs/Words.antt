@@ -9,23 +9,19 @@ pub use mir.Syntax.{w64}
 pub use mir.Val.{toZ}
 pub use denote.Ref.{now}
 pub use borrow.Author.Needs.{needs}
-pub use borrow.Kind.Array.{eFloat, good-length}
+pub use borrow.Kind.Array.{good-length}
+pub use Rattle.number.specs.WordsReal32.{K, scaleBy, value}
+pub use Rattle.number.proofs.WordsReal32.{cell, commutes, scale-by, self-conjugate, slab, zero-literal}
 pub use Rattle.blas.proofs.SumLaws.{sum-end, sum-next, sum-start}
 pub use Rattle.blas.specs.Matrix.{accumulate, sum}
-pub use Rattle.number.proofs.Commutes.{real-commutes}
-pub use Rattle.number.proofs.Literals.{zero-literal}
-pub use Rattle.number.proofs.ScalingLaws.{scale32}
-pub use Rattle.number.proofs.SlabLaws.{real-slab}
-pub use Rattle.number.specs.Kind.{real32}
-pub use Rattle.number.specs.Scaling.{scaleBy32}
 pub use Rattle.product_plan.proofs.Eights.{beside-next, block-settled, column-settled, column-sums-next, eight-end, eight-next, eight-start, folded-eights, sums-end, sums-start, sums-whole, turn-at-once}
 pub use Rattle.product_plan.proofs.Kernels.{gemm-done, gemm-planned, gemm-refused, gemm-runs, gemv-done, gemv-planned, gemv-refused, gemv-runs, gemv-vectors, hemm-done, hemm-refused, hemm-runs, hemv-done, hemv-refused, hemv-runs, hemv-vectors, herk-done, herk-refused, herk-runs, symm-done, symm-refused, symm-runs, syrk-done, syrk-refused, syrk-runs}
 pub use Rattle.product_plan.proofs.Ready.{accepted-kept, eight-turns, folded-kept, nearer, ready-kept, spans}
 pub use Rattle.product_plan.proofs.Rows.{entry-put, put-replaced, row-columns, span-last}
 pub use Rattle.product_plan.proofs.Sums.{after-turn, before-turn, folded-sum, plus-end, plus-start, real-next, sum-whole}
 pub use Rattle.product_plan.specs.Plan.{foldedChange, foldedProduct, foldedTerm, planChange, product, term, turnedSum}
-pub use Rattle.slab.proofs.EightLaws.{Part, eight-of, eight-same, part-end, part-next, part-start}
-pub use Rattle.slab.proofs.LoopLaws.{column-next, put-next, row-last, rows-last, rows-next, rows-span-end, rows-span-next, rows-span-start, span-after, span-end, span-next, span-on, span-start}
+pub use Rattle.slab.proofs.EightLaws.{Part, part-end, part-next, part-start}
+pub use Rattle.slab.proofs.LoopLaws.{column-next, put-next, row-last, row-begun, rows-last, rows-next, rows-span-end, rows-span-next, rows-span-start, rows-begun, span-after, span-end, span-next, span-on, span-start}
 pub use Rattle.slab.proofs.Shown.{beside, inside, shown}
 pub use Rattle.slab.specs.Eight.{Eight}
 pub use Rattle.slab.specs.Run.{plusTerms}

@@ -2,22 +2,18 @@
 pub use Prim.Native.Nat.{_-_, _/_, _<_, _≤_, ℕ}
 pub use mathlib.Core.Path.{_∙_, _≡_, ap, refl, subst, sym}
 pub use native.Mathlib.Omega.{arith}
-pub use lib.Ieee.{binary64}
 pub use lib.ListN.{length}
 pub use denote.Ref.{now}
 pub use borrow.Author.Needs.{needs}
+pub use Rattle.number.specs.WordsComplex.{K}
+pub use Rattle.number.proofs.WordsComplex.{commutes, laws, one-literal, swaps, zero-literal}
 pub use Rattle.blas.specs.Substitution.{minusTerms}
-pub use Rattle.number.proofs.Commutes.{complex-commutes}
-pub use Rattle.number.proofs.Instances.{complex-laws}
-pub use Rattle.number.proofs.Literals.{one-literal64, zero-literal}
-pub use Rattle.number.specs.Kind.{complex}
 pub use Rattle.slab.proofs.LoopLaws.{row-last, row-next, row-begun, rows-last, rows-next, rows-begun}
 pub use Rattle.slab.proofs.Shown.{inside, shown}
 pub use Rattle.slab.specs.Elem.{elem}
 pub use Rattle.slab.specs.Run.{elemConj, plusTerms}
 pub use Rattle.slab.specs.Update.{everywhere}
 unfoldable pub use Rattle.slab.specs.Update.{updateOne, updateRow, updateRows}
-pub use Rattle.triangle_plan.proofs.InOrder.{complex-swaps}
 pub use Rattle.triangle_plan.proofs.Judged.{matrix-runs, vector-passed, vector-runs}
 pub use Rattle.triangle_plan.proofs.LineSums.{sum-before, sum-behind}
 pub use Rattle.triangle_plan.proofs.Multiplies.{multiply-one-is}

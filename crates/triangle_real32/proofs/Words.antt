@@ -2,27 +2,21 @@
 pub use Prim.Native.Nat.{_+_, _-_, _<_, _≤_, ℕ}
 pub use mathlib.Core.Path.{_∙_, _≡_, ap, refl, subst, sym}
 pub use native.Mathlib.Omega.{arith}
-pub use lib.Ieee.{binary32}
 pub use lib.ListN.{length}
 pub use denote.Ref.{now}
 pub use borrow.Author.Needs.{needs}
-pub use borrow.Kind.Array.{eFloat, good-length}
+pub use borrow.Kind.Array.{good-length}
+pub use Rattle.number.specs.WordsReal32.{K, value}
+pub use Rattle.number.proofs.WordsReal32.{cell, commutes, laws, one-literal, self-conjugate, slab, swaps, zero-literal}
 pub use Rattle.blas.specs.Substitution.{minusTerms}
-pub use Rattle.number.proofs.Commutes.{real-commutes}
-pub use Rattle.number.proofs.Instances.{real32-laws}
-pub use Rattle.number.proofs.Literals.{one-literal32, zero-literal}
-pub use Rattle.number.proofs.SlabLaws.{real-slab}
-pub use Rattle.number.specs.Kind.{real32}
-pub use Rattle.slab.proofs.EightLaws.{Part, eight-of, part-end, part-next, part-start}
-pub use Rattle.slab.proofs.LoopLaws.{row-last, row-next, rows-last, rows-next}
-pub use Rattle.slab.proofs.RunLaws.{elem-conj-real}
+pub use Rattle.slab.proofs.EightLaws.{Part, part-end, part-next, part-start}
+pub use Rattle.slab.proofs.LoopLaws.{row-last, row-next, row-begun, rows-last, rows-next, rows-begun}
 pub use Rattle.slab.proofs.Shown.{inside, shown}
 pub use Rattle.slab.specs.Eight.{Eight}
 pub use Rattle.slab.specs.Elem.{elem}
 pub use Rattle.slab.specs.Run.{elemConj, plusTerms}
 pub use Rattle.slab.specs.Update.{everywhere}
 unfoldable pub use Rattle.slab.specs.Update.{updateOne, updateRow, updateRows}
-pub use Rattle.triangle_plan.proofs.InOrder.{real-swaps}
 pub use Rattle.triangle_plan.proofs.Judged.{matrix-runs, vector-passed, vector-runs}
 pub use Rattle.triangle_plan.proofs.LineSums.{line-before, line-behind, own-first-is, own-last-is, sums-before, sums-behind}
 pub use Rattle.triangle_plan.proofs.Lines.{element-after-element, multiply-eight-is, solve-eight-is}

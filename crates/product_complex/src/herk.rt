@@ -1,0 +1,102 @@
+// herk.
+
+ghost use mathlib.Core.Path.{_≡_};
+ghost use Prim.Native.Nat.{_<_};
+ghost use Rattle.number.specs.WordsComplex.{K, scaleBy};
+ghost use Rattle.number.specs.Scaling.{times};
+ghost use Rattle.view.specs.Triangle.{inTriangle};
+ghost use Rattle.slab.specs.Elem.{lent};
+ghost use Rattle.slab.specs.Update.{updateRow, update};
+ghost use Rattle.blas.specs.Outcome.{Gives};
+ghost use Rattle.blas.specs.Herk;
+ghost use Rattle.product_plan.specs.Plan.{planChange, PlanReady};
+use crate::element::entry;
+use crate::kind::Beta;
+use crate::kind::Cell;
+use crate::kind::Factor;
+use call_check::check_herk;
+use call_check::quick_syrk;
+use number::Multiplier;
+use product_plan::Plan;
+use product_plan::herk_plan;
+use view::Answer;
+use view::Trans;
+use view::UpLo;
+use view::View;
+use view::cols;
+use view::end_col;
+use view::first_col;
+use view::passed;
+use view::rows;
+
+// Row i of the named triangle of herk's target.
+fn herk_row(
+    uplo: UpLo,
+    plan: Plan,
+    a: &[Cell],
+    b: &[Cell],
+    alpha: Multiplier,
+    beta: Beta,
+    c: &mut [Cell],
+    i: usize,
+)
+    requires { ⌜ PlanReady plan (K .count (now a)) (K .count (now b)) (K .count (now c)) × (i < plan .target .rows) × (i < plan .target .cols) ⌝ }
+    ensures { λ _. ⌜ now (c .exit) ≡ updateRow K (plan .target) (inTriangle uplo) (planChange K plan (scaleBy beta) (times alpha) (now (a .entry)) (now (b .entry))) i (plan .target .cols) (now (c .entry)) ⌝ }
+{
+    let end = end_col(uplo, i, cols(plan.target));
+    let mut j = first_col(uplo, i);
+    while j < end {
+        entry(plan, a, b, alpha, beta, c, i, j);
+        j += 1;
+    }
+}
+
+// The whole of that triangle.
+fn run_herk(
+    uplo: UpLo,
+    plan: Plan,
+    a: &[Cell],
+    b: &[Cell],
+    alpha: Multiplier,
+    beta: Beta,
+    c: &mut [Cell],
+)
+    requires { ⌜ PlanReady plan (K .count (now a)) (K .count (now b)) (K .count (now c)) × (plan .target .rows ≡ plan .target .cols) ⌝ }
+    ensures { λ _. ⌜ now (c .exit) ≡ update K (plan .target) (inTriangle uplo) (planChange K plan (scaleBy beta) (times alpha) (now (a .entry)) (now (b .entry))) (now (c .entry)) ⌝ }
+{
+    let m = rows(plan.target);
+    let mut i = 0;
+    while i < m {
+        herk_row(uplo, plan, a, b, alpha, beta, c, i);
+        i += 1;
+    }
+}
+
+// C ← alpha A Aᴴ + beta C or alpha Aᴴ A + beta C, in the named triangle, alpha and beta real
+pub fn herk(
+    uplo: UpLo,
+    trans: Trans,
+    alpha: Factor,
+    a: &[Cell],
+    va: View,
+    beta: Factor,
+    c: &mut [Cell],
+    vc: View,
+) -> Answer
+    ensures { λ r. ⌜ Gives K (Herk.herk K uplo trans alpha (lent K (now (a .entry)) va) beta (lent K (now (c .entry)) vc)) r (now (c .exit)) ⌝ }
+{
+    let quick = quick_syrk(trans, va, a.len() / 2, vc, c.len() / 2);
+    let answer = check_herk(quick, trans, va, a.len() / 2, vc, c.len() / 2);
+    if passed(answer) {
+        run_herk(
+            uplo,
+            herk_plan(trans, va, vc),
+            a,
+            a,
+            Multiplier::Real(alpha),
+            Beta::judge_real(beta),
+            c,
+        );
+    }
+    answer
+}

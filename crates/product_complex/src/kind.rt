@@ -1,0 +1,13 @@
+// Complex numbers by the names that the texts of this crate use.
+
+pub use number::BetaComplex as Beta;
+pub use number::Complex as Number;
+pub use slab::complex::add_four;
+pub use slab::complex::elem_conj;
+pub use slab::complex::get;
+pub use slab::complex::put;
+pub use slab::complex::sum_of_four;
+
+pub type Cell = f64;
+
+pub type Factor = f64;

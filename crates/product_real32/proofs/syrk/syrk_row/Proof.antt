@@ -1,0 +1,17 @@
+use Rattle.product_real32.proofs.Words.{_≤_, _-_, _≡_, refl, _∙_, arith, length, planChange, span, span-start, span-next, span-last, row-columns, ready-kept, K, scaleBy, value}
+use Rattle.product_real32.proofs.syrk.syrk_row.Statement.{statement}
+use Rattle.product_real32.proofs.syrk.syrk_row.Tie as tie
+
+abbrev Inv-loop : tie.InvT-loop
+Inv-loop plan a b alpha beta c₀ i end j₀ c j = (j₀ ≤ j) × (j ≤ end) × (length c ≡ length c₀) × (c ≡ span K (plan .target) (planChange K plan (scaleBy beta) (K .mul (value alpha)) a b) i j₀ j c₀)
+
+pub syrk-row-spec : {M : Type 1} → statement M
+syrk-row-spec = tie.close (tie.spec
+    Inv-loop (λ plan a b alpha beta c₀ i end j₀ c j. end - j) (λ c κs. tt)
+    (λ c κs. omega (arith, c .before .before .before .before .pre .2, c .cols .ensures)) (λ c κs. tt)
+    (λ c. let h = (row-columns (c .before .before .before .before .before .before .args .uplo) _ _ _ _ _ (c .before .before .before .before .before .before .pre .2) (c .before .before .cols .ensures) (c .first-col .ensures) (c .before .end-col .ensures)) in (omega arith, h .ordered, refl, span-start K _ _ _ _ _))
+    (λ c κs. let h = (row-columns (c .before .before .before .before .before .before .before .before .before .args .uplo) _ _ _ _ _ (c .before .before .before .before .before .before .before .before .before .pre .2) (c .before .before .before .before .before .cols .ensures) (c .before .before .before .first-col .ensures) (c .before .before .before .before .end-col .ensures)) in (ready-kept _ _ _ _ _ (c .before .before .loop .inv .2) (c .before .before .before .before .before .before .before .before .before .pre .0), c .before .before .before .before .before .before .before .before .before .pre .1, omega (arith, h .within, c .before .before .before .before .before .cols .ensures)))
+    (λ c. omega arith) (λ c. omega arith)
+    (λ c. (omega arith, omega arith, c .before .before .entry .kept .1 .1 .1 .1 .1 .0 ∙ c .before .before .before .before .before .loop .inv .2, span-next K _ _ _ _ _ _ _ _ (c .before .before .before .before .before .loop .inv .0) (c .before .before .before .before .before .loop .inv .3) (c .before .before .entry .ensures)))
+    (λ c. c .before .loop .inv .2)
+    (λ c. span-last K _ _ _ _ _ _ _ (row-columns (c .before .before .before .before .before .before .before .before .args .uplo) _ _ _ _ _ (c .before .before .before .before .before .before .before .before .pre .2) (c .before .before .before .before .cols .ensures) (c .before .before .first-col .ensures) (c .before .before .before .end-col .ensures)) _ _ _ (c .before .before .before .before .cols .ensures) (c .before .loop .inv .1) (omega arith) (c .before .loop .inv .3)))

@@ -1,0 +1,230 @@
+// hemm, A on either side.
+
+ghost use mathlib.Core.Path.{_≡_};
+ghost use mathlib.Core.Bool.{true};
+ghost use Prim.Native.Nat.{_<_};
+ghost use Rattle.number.specs.WordsReal32.{K, scaleBy, value};
+ghost use Rattle.slab.specs.Elem.{lent};
+ghost use Rattle.slab.specs.Update.{everywhere, updateRow, update};
+ghost use Rattle.blas.specs.Outcome.{Gives};
+ghost use Rattle.blas.specs.Hemm;
+ghost use Rattle.product_plan.specs.Plans.{ReadySided, sidedWork};
+ghost use Rattle.product_plan.specs.Plan.{term, foldedChange, FoldedReady, ByRow};
+use crate::folded::run_folded;
+use crate::folded::run_folded_wide;
+use crate::folded::small_entry;
+use crate::kind::Beta;
+use crate::kind::Cell;
+use crate::kind::Number;
+use call_check::check_hemm;
+use call_check::quick_symm;
+use product_plan::Folded;
+use product_plan::left_plan;
+use product_plan::right_plan;
+use product_plan::turn_at;
+use view::Answer;
+use view::Side;
+use view::UpLo;
+use view::View;
+use view::cols;
+use view::passed;
+use view::rows;
+
+// Row i of hemm with A on the left.
+fn hemm_left_row(
+    plan: Folded,
+    a: &[Cell],
+    b: &[Cell],
+    alpha: Number,
+    beta: Beta,
+    c: &mut [Cell],
+    i: usize,
+)
+    requires { ⌜ FoldedReady plan (K .count (now a)) (K .count (now b)) (K .count (now c)) × ByRow plan × (i < plan .target .rows) ⌝ }
+    ensures { λ _. ⌜ now (c .exit) ≡ updateRow K (plan .target) everywhere (foldedChange K plan (scaleBy beta) (K .mul (value alpha)) (now (a .entry)) (now (b .entry))) i (plan .target .cols) (now (c .entry)) ⌝ }
+{
+    let turn = plan.turn;
+    let k = turn_at(turn, i, 0, plan.terms);
+    let n = cols(plan.target);
+    let mut j = 0;
+    while j < n {
+        small_entry(plan, k, a, b, alpha, beta, c, i, j);
+        j += 1;
+    }
+}
+
+// The whole target of hemm with A on the left, term by term.
+fn hemm_left_small(plan: Folded, a: &[Cell], b: &[Cell], alpha: Number, beta: Beta, c: &mut [Cell])
+    requires { ⌜ FoldedReady plan (K .count (now a)) (K .count (now b)) (K .count (now c)) × ByRow plan ⌝ }
+    ensures { λ _. ⌜ now (c .exit) ≡ update K (plan .target) everywhere (foldedChange K plan (scaleBy beta) (K .mul (value alpha)) (now (a .entry)) (now (b .entry))) (now (c .entry)) ⌝ }
+{
+    let m = rows(plan.target);
+    let mut i = 0;
+    while i < m {
+        hemm_left_row(plan, a, b, alpha, beta, c, i);
+        i += 1;
+    }
+}
+
+// hemm with A on the left.
+fn hemm_left(
+    uplo: UpLo,
+    alpha: Number,
+    a: &[Cell],
+    va: View,
+    b: &[Cell],
+    vb: View,
+    beta: Beta,
+    c: &mut [Cell],
+    vc: View,
+)
+    requires { ⌜ ReadySided Side.Left true uplo va (K .count (now a)) vb (K .count (now b)) vc (K .count (now c)) ⌝ }
+    ensures { λ _. ⌜ now (c .exit) ≡ sidedWork K Side.Left true uplo va vb vc (scaleBy beta) (K .mul (value alpha)) (now (a .entry)) (now (b .entry)) (now (c .entry)) ⌝ }
+{
+    if 8 <= cols(vc) {
+        run_folded_wide(
+            left_plan(true, uplo, va, vb, rows(vc), vc),
+            a,
+            b,
+            alpha,
+            beta,
+            c,
+        );
+    } else if 8 <= rows(vc) {
+        run_folded(
+            left_plan(true, uplo, va, vb, rows(vc), vc),
+            a,
+            b,
+            alpha,
+            beta,
+            c,
+        );
+    } else {
+        hemm_left_small(
+            left_plan(true, uplo, va, vb, rows(vc), vc),
+            a,
+            b,
+            alpha,
+            beta,
+            c,
+        );
+    }
+}
+
+// Row i of hemm with A on the right.
+fn hemm_right_row(
+    plan: Folded,
+    a: &[Cell],
+    b: &[Cell],
+    alpha: Number,
+    beta: Beta,
+    c: &mut [Cell],
+    i: usize,
+)
+    requires { ⌜ FoldedReady plan (K .count (now a)) (K .count (now b)) (K .count (now c)) × (i < plan .target .rows) ⌝ }
+    ensures { λ _. ⌜ now (c .exit) ≡ updateRow K (plan .target) everywhere (foldedChange K plan (scaleBy beta) (K .mul (value alpha)) (now (a .entry)) (now (b .entry))) i (plan .target .cols) (now (c .entry)) ⌝ }
+{
+    let turn = plan.turn;
+    let m = plan.terms;
+    let n = cols(plan.target);
+    let mut j = 0;
+    while j < n {
+        let k = turn_at(turn, i, j, m);
+        small_entry(plan, k, a, b, alpha, beta, c, i, j);
+        j += 1;
+    }
+}
+
+// The whole target of hemm with A on the right, term by term.
+fn hemm_right_small(plan: Folded, a: &[Cell], b: &[Cell], alpha: Number, beta: Beta, c: &mut [Cell])
+    requires { ⌜ FoldedReady plan (K .count (now a)) (K .count (now b)) (K .count (now c)) ⌝ }
+    ensures { λ _. ⌜ now (c .exit) ≡ update K (plan .target) everywhere (foldedChange K plan (scaleBy beta) (K .mul (value alpha)) (now (a .entry)) (now (b .entry))) (now (c .entry)) ⌝ }
+{
+    let m = rows(plan.target);
+    let mut i = 0;
+    while i < m {
+        hemm_right_row(plan, a, b, alpha, beta, c, i);
+        i += 1;
+    }
+}
+
+// hemm with A on the right.
+fn hemm_right(
+    uplo: UpLo,
+    alpha: Number,
+    a: &[Cell],
+    va: View,
+    b: &[Cell],
+    vb: View,
+    beta: Beta,
+    c: &mut [Cell],
+    vc: View,
+)
+    requires { ⌜ ReadySided Side.Right true uplo va (K .count (now a)) vb (K .count (now b)) vc (K .count (now c)) ⌝ }
+    ensures { λ _. ⌜ now (c .exit) ≡ sidedWork K Side.Right true uplo va vb vc (scaleBy beta) (K .mul (value alpha)) (now (a .entry)) (now (b .entry)) (now (c .entry)) ⌝ }
+{
+    if 8 <= cols(vc) {
+        run_folded_wide(
+            right_plan(true, uplo, va, vb, cols(vc), vc),
+            b,
+            a,
+            alpha,
+            beta,
+            c,
+        );
+    } else {
+        hemm_right_small(
+            right_plan(true, uplo, va, vb, cols(vc), vc),
+            b,
+            a,
+            alpha,
+            beta,
+            c,
+        );
+    }
+}
+
+// A, of which the named triangle is read, on a side of B; its other elements are mirrored and conjugated.
+fn hemm_sided(
+    side: Side,
+    uplo: UpLo,
+    alpha: Number,
+    a: &[Cell],
+    va: View,
+    b: &[Cell],
+    vb: View,
+    beta: Beta,
+    c: &mut [Cell],
+    vc: View,
+)
+    requires { ⌜ ReadySided side true uplo va (K .count (now a)) vb (K .count (now b)) vc (K .count (now c)) ⌝ }
+    ensures { λ _. ⌜ now (c .exit) ≡ sidedWork K side true uplo va vb vc (scaleBy beta) (K .mul (value alpha)) (now (a .entry)) (now (b .entry)) (now (c .entry)) ⌝ }
+{
+    match side {
+        Side::Left => hemm_left(uplo, alpha, a, va, b, vb, beta, c, vc),
+        Side::Right => hemm_right(uplo, alpha, a, va, b, vb, beta, c, vc),
+    }
+}
+
+// C ← alpha A B + beta C or alpha B A + beta C, A Hermitian
+pub fn hemm(
+    side: Side,
+    uplo: UpLo,
+    alpha: Number,
+    a: &[Cell],
+    va: View,
+    b: &[Cell],
+    vb: View,
+    beta: Number,
+    c: &mut [Cell],
+    vc: View,
+) -> Answer
+    ensures { λ r. ⌜ Gives K (Hemm.hemm K side uplo (value alpha) (lent K (now (a .entry)) va) (lent K (now (b .entry)) vb) (value beta) (lent K (now (c .entry)) vc)) r (now (c .exit)) ⌝ }
+{
+    let quick = quick_symm(side, va, a.len(), vb, b.len(), vc, c.len());
+    let answer = check_hemm(quick, side, va, a.len(), vb, b.len(), vc, c.len());
+    if passed(answer) {
+        hemm_sided(side, uplo, alpha, a, va, b, vb, Beta::judge(beta), c, vc);
+    }
+    answer
+}

@@ -1,9 +1,0 @@
-use Rattle.triangle_complex.proofs.Words.{refl, ap, _∙_, complex, needs}
-use Rattle.triangle_complex.proofs.by_pivot.Statement.{statement}
-use Rattle.triangle_complex.proofs.by_pivot.Tie as tie
-
-pub by-pivot-spec : {M : Type 1} → statement M
-by-pivot-spec = tie.close (tie.spec
-    (λ c. search needs) (λ c κs. search needs) (λ c κs. search needs) (λ c. search needs)
-    (λ c. rw (c .before .before .enum-told .given .1) (c .div .ensures ∙ ap (complex .div _) (c .before .at .ensures)))
-    (λ c. rw (c .enum-told2 .given .1) refl))

@@ -1,0 +1,8 @@
+use Rattle.triangle_complex.proofs.Words.{one-literal, needs}
+use Rattle.triangle_complex.proofs.line.own_weight.Statement.{statement}
+use Rattle.triangle_complex.proofs.line.own_weight.Tie as tie
+
+pub own-weight-spec : {M : Type 1} → statement M
+own-weight-spec = tie.close (tie.spec
+    (λ c. search needs) (λ c κs. search needs) (λ c. search needs) (λ c. rw (c .before .enum-told .given .1) (c .elem-conj .ensures))
+    (λ c. rw (c .enum-told2 .given .1) one-literal))

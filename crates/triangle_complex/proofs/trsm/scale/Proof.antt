@@ -1,0 +1,15 @@
+use Rattle.triangle_complex.proofs.Words.{rows-begun, rows-next, rows-last, updateRows, everywhere, needs, length, _≤_, _-_, ℕ, _/_, _≡_, refl, _∙_, ap, row-in, arith, K}
+use Rattle.triangle_complex.proofs.trsm.scale.Statement.{statement}
+use Rattle.triangle_complex.proofs.trsm.scale.Tie as tie
+
+abbrev Inv-loop : tie.InvT-loop
+Inv-loop alpha b₀ vb m i₀ b i = (i ≤ m) × (length b ≡ length b₀) × (b ≡ updateRows K vb everywhere (λ i j x. K .mul alpha x) i b₀)
+
+pub scale-spec : {M : Type 1} → statement M
+scale-spec = tie.close (tie.spec
+    Inv-loop (λ alpha b₀ vb m i₀ b i. m - i) (λ c κs. search needs) (λ c. (omega arith, refl, rows-begun _ _ _ _ _))
+    (λ c κs. row-in _ _ _ _ _ (c .before .before .before .before .before .pre) (ap (λ (n : ℕ). n / 2) (c .before .before .loop .inv .1)) (c .before .before .before .rows .ensures) (c .before .loop-test .taken))
+    (λ c. omega arith) (λ c. omega arith)
+    (λ c. (omega arith, c .before .before .scale-row .kept .1 .0 ∙ c .before .before .before .before .before .loop .inv .1, rows-next _ _ _ _ _ _ _ _ (c .before .before .before .before .before .loop .inv .2) (c .before .before .scale-row .ensures)))
+    (λ c. c .before .loop .inv .1)
+    (λ c. rows-last _ _ _ _ _ _ _ _ (c .before .before .rows .ensures) (c .before .loop .inv .0) (omega arith) (c .before .loop .inv .2)))

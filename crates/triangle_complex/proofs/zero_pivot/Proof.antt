@@ -1,8 +1,0 @@
-use Rattle.triangle_complex.proofs.Words.{ap, _∙_, complex, needs}
-use Rattle.triangle_complex.proofs.zero_pivot.Statement.{statement}
-use Rattle.triangle_complex.proofs.zero_pivot.Tie as tie
-
-pub zero-pivot-spec : {M : Type 1} → statement M
-zero-pivot-spec = tie.close (tie.spec
-    (λ c. search needs) (λ c κs. search needs) (λ c κs. search needs) (λ c. search needs)
-    (λ c. rw (c .before .before .enum-told .given .1) (c .is-zero .ensures ∙ ap (complex .isZero) (c .before .elem .ensures))) (λ c. search needs))

@@ -1,9 +1,0 @@
-use Rattle.triangle_real32.proofs.Words.{refl, subst, binary32, good-length, eFloat, real32, Eight, needs}
-use Rattle.triangle_real32.proofs.by_pivot_eight.Statement.{statement}
-use Rattle.triangle_real32.proofs.by_pivot_eight.Tie as tie
-
-pub by-pivot-eight-spec : {M : Type 1} → statement M
-by-pivot-eight-spec = tie.close (tie.spec
-    (λ c. search needs) (λ c κs. search needs) (λ c κs. search needs) (λ c. search needs)
-    (λ c. rw (c .before .before .enum-told .given .1) (subst (λ (d : real32 .Elem). Eight real32 (c .over-eight .result) (λ t. real32 .div (real32 .at (c .before .before .before .before .before .args .xs) t) d)) (c .before .at .ensures) (c .over-eight .ensures)))
-    (λ c. rw (c .enum-told2 .given .1) (record { count = good-length (eFloat binary32) 8 (c .before .before .before .args .xs) _ (c .before .before .before .good .1 .1 .1 .1 .1 .0); sum = λ t l. refl })))

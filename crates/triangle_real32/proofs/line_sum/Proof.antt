@@ -1,9 +1,0 @@
-use Rattle.triangle_real32.proofs.Words.{_-_, _≡_, arith, binary32, real32, zero-literal, line-behind, line-before, needs}
-use Rattle.triangle_real32.proofs.line_sum.Statement.{statement}
-use Rattle.triangle_real32.proofs.line_sum.Tie as tie
-
-pub line-sum-spec : {M : Type 1} → statement M
-line-sum-spec = tie.close (tie.spec
-    (λ c κs. tt) (λ c. search needs) (λ c. search needs) (λ c κs. search needs) (λ c κs. search needs)
-    (λ c. line-behind real32 _ _ _ _ _ _ _ (c .before .before .if1 .taken) (c .before .rows .ensures) (c .own-first .ensures))
-    (λ c. let q = c .before .before .before .before .args .q in let all : q - 0 ≡ q = omega arith in line-before real32 _ _ _ _ _ _ _ _ (c .before .if1 .left) (zero-literal binary32) all (c .own-last .ensures)))

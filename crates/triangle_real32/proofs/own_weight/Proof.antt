@@ -1,8 +1,0 @@
-use Rattle.triangle_real32.proofs.Words.{one-literal32, needs}
-use Rattle.triangle_real32.proofs.own_weight.Statement.{statement}
-use Rattle.triangle_real32.proofs.own_weight.Tie as tie
-
-pub own-weight-spec : {M : Type 1} → statement M
-own-weight-spec = tie.close (tie.spec
-    (λ c. search needs) (λ c κs. search needs) (λ c. search needs) (λ c. rw (c .before .enum-told .given .1) (c .at .ensures))
-    (λ c. rw (c .enum-told2 .given .1) one-literal32))

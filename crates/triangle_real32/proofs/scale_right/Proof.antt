@@ -1,8 +1,0 @@
-use Rattle.triangle_real32.proofs.Words.{needs}
-use Rattle.triangle_real32.proofs.scale_right.Statement.{statement}
-use Rattle.triangle_real32.proofs.scale_right.Tie as tie
-
-pub scale-right-spec : {M : Type 1} → statement M
-scale-right-spec = tie.close (tie.spec
-    (λ c. search needs) (λ c. search needs) (λ c κs. search needs) (λ c. search needs) (λ c. search needs)
-    (λ c. rw (c .before .before .before .before .enum-told2 .given .1) (c .before .before .scale .ensures)))

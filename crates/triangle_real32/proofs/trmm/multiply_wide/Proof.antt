@@ -1,0 +1,17 @@
+use Rattle.triangle_real32.proofs.Words.{_≤_, _-_, _≡_, refl, _∙_, arith, length, walk, multiplyAcross, element-after-element, ready-kept, walk-start, walk-next, walk-end, swaps, laws, K, value}
+use Rattle.triangle_real32.proofs.trmm.multiply_wide.Statement.{statement}
+use Rattle.triangle_real32.proofs.trmm.multiply_wide.Tie as tie
+
+abbrev Inv-loop : tie.InvT-loop
+Inv-loop sys alpha a b₀ m k₀ b k = (k ≤ m) × (length b ≡ length b₀) × (b ≡ walk k (λ i. multiplyAcross K sys a (K .mul (value alpha)) i) b₀)
+
+pub multiply-wide-spec : {M : Type 1} → statement M
+multiply-wide-spec = tie.close (tie.spec
+    Inv-loop (λ sys alpha a b₀ m k₀ b k. m - k) (λ c κs. tt) (λ c. (omega arith, refl, walk-start _ _))
+    (λ c κs. let p = c .before .before .before .before .before .before .pre in (ready-kept _ _ _ _ (p .0) (c .before .before .loop .inv .1), omega (arith, c .before .before .before .rows .ensures), p .1))
+    (λ c. omega arith) (λ c. omega arith)
+    (λ c. let i = c .before .before .before .before .before .loop .inv in
+    (omega arith, c .before .before .multiply-blocks .kept .1 .1 .1 .0 ∙ i .1, walk-next _ _ _ _ _ (i .2) (c .before .before .multiply-blocks .ensures)))
+    (λ c. c .before .loop .inv .1)
+    (λ c. element-after-element K (laws .slab) _ _ _ (c .before .before .before .before .before .pre .0 .apart) swaps _ _ _ (c .before .before .rows .ensures)
+    (walk-end _ _ _ _ _ (c .before .loop .inv .0) (omega arith) (c .before .loop .inv .2))))

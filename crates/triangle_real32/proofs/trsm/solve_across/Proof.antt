@@ -1,0 +1,14 @@
+use Rattle.triangle_real32.proofs.Words.{_≤_, _-_, _≡_, refl, _∙_, arith, length, walk, timesIf, solveUnknown, walk-start, walk-next, walk-end, ready-for, K, value}
+use Rattle.triangle_real32.proofs.trsm.solve_across.Statement.{statement}
+use Rattle.triangle_real32.proofs.trsm.solve_across.Tie as tie
+
+abbrev Inv-loop : tie.InvT-loop
+Inv-loop sys times alpha a b₀ n k l₀ b l = (l ≤ n) × (length b ≡ length b₀) × (b ≡ walk l (λ j. solveUnknown K sys (timesIf K times (value alpha)) a k j) b₀)
+
+pub solve-across-spec : {M : Type 1} → statement M
+solve-across-spec = tie.close (tie.spec
+    Inv-loop (λ sys times alpha a b₀ n k l₀ b l. n - l) (λ c. (omega arith, refl, walk-start _ _))
+    (λ c κs. let p = c .before .before .before .before .before .pre in ready-for _ _ _ _ _ _ _ _ (p .0) (c .before .before .loop .inv .1) refl refl (p .1 .1) (omega (arith, p .1 .0)))
+    (λ c. omega arith) (λ c. omega arith)
+    (λ c. (omega arith, c .before .before .solve-one .kept .1 .1 .1 .1 .0 ∙ c .before .before .before .before .before .loop .inv .1, walk-next _ _ _ _ _ (c .before .before .before .before .before .loop .inv .2) (c .before .before .solve-one .ensures)))
+    (λ c. c .before .loop .inv .1) (λ c. walk-end _ _ _ _ _ (c .before .loop .inv .0) (omega arith) (c .before .loop .inv .2)))

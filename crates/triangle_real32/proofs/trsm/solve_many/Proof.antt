@@ -1,0 +1,10 @@
+use Rattle.triangle_real32.proofs.Words.{lines-in, unknowns-in, lines-solved, needs, K}
+use Rattle.triangle_real32.proofs.trsm.solve_many.Statement.{statement}
+use Rattle.triangle_real32.proofs.trsm.solve_many.Tie as tie
+
+pub solve-many-spec : {M : Type 1} → statement M
+solve-many-spec = tie.close (tie.spec
+    (λ c κs. search needs) (λ c κs. search needs) (λ c κs. search needs) (λ c κs. search needs)
+    (λ c κs. (c .before .before .before .before .before .before .before .pre .0, (lines-in (c .before .before .before .before .before .before .before .args .sys .side) _ _ _ _ _ (c .before .before .before .stops .ensures) (c .before .before .cols .ensures) (c .before .lines-solved .ensures), unknowns-in K _ _ _ (c .before .before .before .before .first-zero .ensures)), c .before .before .before .before .before .before .before .pre .1))
+    (λ c κs. search needs) (λ c. search needs)
+    (λ c. lines-solved K _ _ _ _ _ _ _ _ _ _ (c .before .before .before .before .before .before .before .before .first-zero .ensures) (c .before .before .before .before .before .before .before .stops .ensures) (c .before .before .before .before .before .before .cols .ensures) (c .before .before .before .before .before .lines-solved .ensures) (c .solved .ensures) (c .before .before .before .solve-wide .ensures)))
