@@ -1,9 +1,7 @@
 -- The laws of complex numbers by the names that a text for several kinds uses.
 use Prim.Native.Nat.{ℕ, _/_}
-use mathlib.Core.List.{List}
 use mathlib.Core.Path.{_≡_, ap}
-use lib.Ieee.{Float, binary64, ofBits}
-use lib.ListN.{length}
+use lib.Ieee.{binary64, ofBits}
 use Rattle.number.specs.Kind.{complex}
 use Rattle.number.specs.declared.Complex.{Complex}
 use Rattle.number.proofs.Literals.{zero-literal as zero-of, one-literal64}
@@ -19,5 +17,5 @@ pub one-literal : _≡_ {A = Complex} (record { re = ofBits binary64 0x3ff0_0000
 one-literal = λ i. record { re = one-literal64 i; im = zero-of binary64 i }
 
 -- slabs of one length have as many elements
-pub counted : (s t : List Float) → length s ≡ length t → complex .count s ≡ complex .count t
-counted s t e = ap (λ (n : ℕ). n / 2) e
+pub counted : {m n : ℕ} → m ≡ n → m / 2 ≡ n / 2
+counted e = ap (λ (n : ℕ). n / 2) e

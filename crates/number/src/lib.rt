@@ -103,6 +103,13 @@ impl Beta64 {
         Beta64::Factor(beta.0)
     }
 
+    // The same of a real factor.
+    pub fn judge_real(beta: f64) -> Beta64
+        ensures { λ r. ⌜ r ≡ beta64 beta ⌝ }
+    {
+        Beta64::judge(Real64(beta))
+    }
+
     pub fn scale(self, x: Real64) -> Real64
         ensures { λ r. ⌜ r .0 ≡ scaleBy64 self (x .0) ⌝ }
     {
@@ -211,6 +218,13 @@ impl Beta32 {
             return Beta32::Keep;
         }
         Beta32::Factor(beta.0)
+    }
+
+    // The same of a real factor.
+    pub fn judge_real(beta: f32) -> Beta32
+        ensures { λ r. ⌜ r ≡ beta32 beta ⌝ }
+    {
+        Beta32::judge(Real32(beta))
     }
 
     pub fn scale(self, x: Real32) -> Real32

@@ -12,6 +12,7 @@ ghost use Rattle.product_plan.specs.Plan.{term, planChange, foldedChange, terms
 use crate::kind::Beta;
 use crate::kind::Cell;
 use crate::kind::Number;
+use crate::kind::elem;
 use crate::kind::elem_conj;
 use crate::kind::get;
 use crate::kind::put;

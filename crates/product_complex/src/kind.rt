@@ -3,6 +3,7 @@
 pub use number::BetaComplex as Beta;
 pub use number::Complex as Number;
 pub use slab::complex::add_four;
+pub use slab::complex::elem;
 pub use slab::complex::elem_conj;
 pub use slab::complex::get;
 pub use slab::complex::put;

@@ -70,8 +70,10 @@ fn her_rows(uplo: UpLo, alpha: Factor, x: &[Cell], vx: View, a: &mut [Cell], va:
 pub fn her(uplo: UpLo, alpha: Factor, x: &[Cell], vx: View, a: &mut [Cell], va: View) -> Answer
     ensures { λ r. ⌜ Gives K (Her.her K uplo alpha (lent K (now (x .entry)) vx) (lent K (now (a .entry)) va)) r (now (a .exit)) ⌝ }
 {
-    let quick = quick_her(vx, x.len(), va, a.len());
-    let answer = check_her(quick, vx, x.len(), va, a.len());
+    let lx = x.len();
+    let la = a.len();
+    let quick = quick_her(vx, lx, va, la);
+    let answer = check_her(quick, vx, lx, va, la);
     if passed(answer) {
         her_rows(uplo, alpha, x, column(vx, va.rows), a, va);
     }

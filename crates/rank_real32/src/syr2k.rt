@@ -105,8 +105,11 @@ pub fn syr2k(
 ) -> Answer
     ensures { λ r. ⌜ Gives K (Syr2k.syr2k K uplo trans (value alpha) (lent K (now (a .entry)) va) (lent K (now (b .entry)) vb) (value beta) (lent K (now (c .entry)) vc)) r (now (c .exit)) ⌝ }
 {
-    let quick = quick_syr2k(trans, va, a.len(), vb, b.len(), vc, c.len());
-    let answer = check_syr2k(quick, trans, va, a.len(), vb, b.len(), vc, c.len());
+    let la = a.len();
+    let lb = b.len();
+    let lc = c.len();
+    let quick = quick_syr2k(trans, va, la, vb, lb, vc, lc);
+    let answer = check_syr2k(quick, trans, va, la, vb, lb, vc, lc);
     if passed(answer) {
         let plan = syr2k_plan(uplo, trans, va, vb, vc);
         syr2k_target(alpha, Beta::judge(beta), plan, a, b, c);

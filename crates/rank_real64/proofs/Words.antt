@@ -6,7 +6,7 @@ pub use lib.ListN.{length}
 pub use denote.Ref.{now}
 pub use borrow.Author.Needs.{needs}
 pub use Rattle.number.specs.WordsReal64.{K, scaleBy, value}
-pub use Rattle.number.proofs.WordsReal64.{scale-by, self-conjugate, zero-literal}
+pub use Rattle.number.proofs.WordsReal64.{counted, scale-by, scale-by-real, self-conjugate, zero-literal}
 pub use Rattle.blas.proofs.SumLaws.{pair-end, pair-next, pair-start}
 pub use Rattle.blas.specs.Her.{herChange}
 pub use Rattle.blas.specs.Her2.{her2Change}

@@ -112,8 +112,11 @@ pub fn her2(
 ) -> Answer
     ensures { λ r. ⌜ Gives K (Her2.her2 K uplo (value alpha) (lent K (now (x .entry)) vx) (lent K (now (y .entry)) vy) (lent K (now (a .entry)) va)) r (now (a .exit)) ⌝ }
 {
-    let quick = quick_her2(vx, x.len(), vy, y.len(), va, a.len());
-    let answer = check_her2(quick, vx, x.len(), vy, y.len(), va, a.len());
+    let lx = x.len();
+    let ly = y.len();
+    let la = a.len();
+    let quick = quick_her2(vx, lx, vy, ly, va, la);
+    let answer = check_her2(quick, vx, lx, vy, ly, va, la);
     if passed(answer) {
         her2_rows(
             uplo,

@@ -106,11 +106,14 @@ pub fn her2k(
 ) -> Answer
     ensures { λ r. ⌜ Gives K (Her2k.her2k K uplo trans (value alpha) (lent K (now (a .entry)) va) (lent K (now (b .entry)) vb) beta (lent K (now (c .entry)) vc)) r (now (c .exit)) ⌝ }
 {
-    let quick = quick_syr2k(trans, va, a.len(), vb, b.len(), vc, c.len());
-    let answer = check_her2k(quick, trans, va, a.len(), vb, b.len(), vc, c.len());
+    let la = a.len();
+    let lb = b.len();
+    let lc = c.len();
+    let quick = quick_syr2k(trans, va, la, vb, lb, vc, lc);
+    let answer = check_her2k(quick, trans, va, la, vb, lb, vc, lc);
     if passed(answer) {
         let plan = her2k_plan(uplo, trans, va, vb, vc);
-        her2k_target(alpha, Beta::judge(Number(beta)), plan, a, b, c);
+        her2k_target(alpha, Beta::judge_real(beta), plan, a, b, c);
     }
     answer
 }

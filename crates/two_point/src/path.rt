@@ -1,7 +1,7 @@
 // A line a + b·s through the poses at two stations s: [[1, 2], [1, 6]] (a, b) = poses, with the factors of that matrix.
 use number::Real64;
-use product_real64::gemm;
-use triangle_real64::trsm;
+use product_real64::gemm::gemm;
+use triangle_real64::trsm::trsm;
 use view::Answer;
 use view::Diag;
 use view::Side;

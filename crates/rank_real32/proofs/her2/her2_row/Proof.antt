@@ -1,4 +1,4 @@
-use Rattle.rank_real32.proofs.Words.{_≤_, _-_, _≡_, refl, ap, _∙_, arith, length, now, elem, her2Change, addTwo, column-shows, two-shows, span, span-start, span-next, span-last, row-lt, begins, column-lt, her2-same, K, value}
+use Rattle.rank_real32.proofs.Words.{_≤_, _-_, _≡_, refl, ap, _∙_, arith, length, now, elem, her2Change, addTwo, column-shows, two-shows, span, span-start, span-next, span-last, row-lt, begins, column-lt, her2-same, K, value, counted}
 use Rattle.rank_real32.proofs.her2.her2_row.Statement.{statement}
 use Rattle.rank_real32.proofs.her2.her2_row.Tie as tie
 
@@ -20,7 +20,7 @@ her2-row-spec = tie.close (tie.spec
       span-start K _ _ _ _ _,
     ))
     (λ c κs. let s = c .before .before .before .before .before .before .before .before .before .before .before .before .before .before in
-    two-shows _ _ _ _ _ _ _ (c .before .before .loop .inv .2) (s .pre .0) _ _ (s .pre .1)
+    two-shows _ _ _ _ _ _ _ (counted (c .before .before .loop .inv .2)) (s .pre .0) _ _ (s .pre .1)
     (column-lt _ _ (s .pre .0 .target) _ (s .pre .1) _ (c .before .before .before .before .before .cols .ensures) (s .args .uplo) _ _ (c .before .before .before .before .end-col .ensures) (omega arith)))
     (λ c. omega arith) (λ c. omega arith)
     (λ c. let l = c .before .before .before .before .before .loop in (

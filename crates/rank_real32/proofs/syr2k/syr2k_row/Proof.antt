@@ -1,4 +1,4 @@
-use Rattle.rank_real32.proofs.Words.{_≤_, _-_, _≡_, refl, _∙_, arith, length, now, syr2kChange, paired-shows, span, span-start, span-next, span-last, row-lt, begins, column-lt, K, scaleBy, value}
+use Rattle.rank_real32.proofs.Words.{_≤_, _-_, _≡_, refl, _∙_, arith, length, now, syr2kChange, paired-shows, span, span-start, span-next, span-last, row-lt, begins, column-lt, K, scaleBy, value, counted}
 use Rattle.rank_real32.proofs.syr2k.syr2k_row.Statement.{statement}
 use Rattle.rank_real32.proofs.syr2k.syr2k_row.Tie as tie
 
@@ -11,7 +11,7 @@ syr2k-row-spec = tie.close (tie.spec
     (λ c κs. row-lt _ _ (c .before .before .before .before .pre .0 .target) _ (c .before .before .before .before .pre .1) _ (c .cols .ensures))
     (λ c κs. tt)
     (λ c. let p = c .before .before .before .before .before .before .args in (omega arith, begins _ _ (c .before .before .before .before .before .before .pre .0 .target) _ (c .before .before .before .before .before .before .pre .1) _ (c .before .before .cols .ensures) (p .plan .uplo) _ _ (c .before .end-col .ensures) (c .first-col .ensures), refl, span-start K _ _ _ _ _))
-    (λ c κs. let p = c .before .before .before .before .before .before .before .before .before .args in paired-shows _ _ _ _ _ (c .before .before .loop .inv .2) (c .before .before .before .before .before .before .before .before .before .pre .0) _ _ (c .before .before .before .before .before .before .before .before .before .pre .1) (column-lt _ _ (c .before .before .before .before .before .before .before .before .before .pre .0 .target) _ (c .before .before .before .before .before .before .before .before .before .pre .1) _ (c .before .before .before .before .before .cols .ensures) (p .plan .uplo) _ _ (c .before .before .before .before .end-col .ensures) (omega arith)))
+    (λ c κs. let p = c .before .before .before .before .before .before .before .before .before .args in paired-shows _ _ _ _ _ (counted (c .before .before .loop .inv .2)) (c .before .before .before .before .before .before .before .before .before .pre .0) _ _ (c .before .before .before .before .before .before .before .before .before .pre .1) (column-lt _ _ (c .before .before .before .before .before .before .before .before .before .pre .0 .target) _ (c .before .before .before .before .before .before .before .before .before .pre .1) _ (c .before .before .before .before .before .cols .ensures) (p .plan .uplo) _ _ (c .before .before .before .before .end-col .ensures) (omega arith)))
     (λ c. omega arith) (λ c. omega arith)
     (λ c. (omega arith, omega arith, c .before .before .syr2k-entry .kept .1 .1 .1 .1 .1 .0 ∙ c .before .before .before .before .before .loop .inv .2, span-next K _ _ _ _ _ _ _ _ (c .before .before .before .before .before .loop .inv .0) (c .before .before .before .before .before .loop .inv .3) (c .before .before .syr2k-entry .ensures)))
     (λ c. c .before .loop .inv .2)

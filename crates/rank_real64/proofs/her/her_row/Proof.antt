@@ -1,4 +1,4 @@
-use Rattle.rank_real64.proofs.Words.{_≤_, _-_, _≡_, refl, sym, ap, _∙_, arith, length, now, elem, herChange, addOne, column-shows, one-shows, span, span-start, span-next, span-last, row-lt, begins, column-lt, her-same, K, value}
+use Rattle.rank_real64.proofs.Words.{_≤_, _-_, _≡_, refl, sym, ap, _∙_, arith, length, now, elem, herChange, addOne, column-shows, one-shows, span, span-start, span-next, span-last, row-lt, begins, column-lt, her-same, K, value, counted}
 use Rattle.rank_real64.proofs.her.her_row.Statement.{statement}
 use Rattle.rank_real64.proofs.her.her_row.Tie as tie
 
@@ -18,7 +18,7 @@ her-row-spec = tie.close (tie.spec
       span-start K _ _ _ _ _,
     ))
     (λ c κs. let s = c .before .before .before .before .before .before .before .before .before .before in
-    one-shows _ _ _ _ _ (c .before .before .loop .inv .2) (s .pre .0) _ _ (s .pre .1)
+    one-shows _ _ _ _ _ (counted (c .before .before .loop .inv .2)) (s .pre .0) _ _ (s .pre .1)
     (column-lt _ _ (s .pre .0 .target) _ (s .pre .1) _ (c .before .before .before .before .before .rows .ensures ∙ sym (s .pre .0 .target .cols)) (s .args .uplo) _ _ (c .before .before .before .before .end-col .ensures) (omega arith)))
     (λ c. omega arith) (λ c. omega arith)
     (λ c. let l = c .before .before .before .before .before .loop in (

@@ -1,9 +1,9 @@
-use Rattle.rank_real64.proofs.Words.{_≤_, _-_, _≡_, sym, _∙_, arith, zero-literal, pair-start, pair-next, pair-end, pairsAt, K}
+use Rattle.rank_real64.proofs.Words.{_≤_, _-_, _≡_, sym, _∙_, arith, zero-literal, pair-start, pair-next, pair-end, pairsAt, K, value}
 use Rattle.rank_real64.proofs.pairs.pair_sum.Statement.{statement}
 use Rattle.rank_real64.proofs.pairs.pair_sum.Tie as tie
 
 abbrev Inv-loop : tie.InvT-loop
-Inv-loop plan a b i j n sum₀ p₀ sum p = (p ≤ n) × (sum .0 ≡ pairsAt K plan a b i j p)
+Inv-loop plan a b i j n sum₀ p₀ sum p = (p ≤ n) × (value sum ≡ pairsAt K plan a b i j p)
 
 pub pair-sum-spec : {M : Type 1} → statement M
 pair-sum-spec = tie.close (tie.spec

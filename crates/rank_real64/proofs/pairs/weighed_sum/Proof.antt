@@ -3,7 +3,7 @@ use Rattle.rank_real64.proofs.pairs.weighed_sum.Statement.{statement}
 use Rattle.rank_real64.proofs.pairs.weighed_sum.Tie as tie
 
 abbrev Inv-loop : tie.InvT-loop
-Inv-loop alpha plan a b i j n sum₀ p₀ sum p = (p ≤ n) × (sum .0 ≡ weighedsAt K plan a b (value alpha) i j p)
+Inv-loop alpha plan a b i j n sum₀ p₀ sum p = (p ≤ n) × (value sum ≡ weighedsAt K plan a b (value alpha) i j p)
 
 pub weighed-sum-spec : {M : Type 1} → statement M
 weighed-sum-spec = tie.close (tie.spec

@@ -1,0 +1,12 @@
+use Rattle.rank_complex.proofs.Words.{left-a-shows, right-b-shows, left-b-shows, right-a-shows, more, twice, K}
+use Rattle.rank_complex.proofs.pairs.add_pair.Statement.{statement}
+use Rattle.rank_complex.proofs.pairs.add_pair.Tie as tie
+
+pub add-pair-spec : {M : Type 1} → statement M
+add-pair-spec = tie.close (tie.spec
+    (λ c κs. left-a-shows _ _ _ _ _ (c .before .before .pre .0) _ (c .before .before .pre .1))
+    (λ c κs. right-b-shows _ _ _ _ _ (c .before .before .before .pre .0) _ (c .before .before .before .pre .1)) (λ c κs. tt)
+    (λ c κs. left-b-shows _ _ _ _ _ (c .before .before .before .before .before .pre .0) _ (c .before .before .before .before .before .pre .1))
+    (λ c κs. right-a-shows _ _ _ _ _ (c .before .before .before .before .before .before .pre .0) _ (c .before .before .before .before .before .before .pre .1))
+    (λ c κs. tt) (λ c κs. tt) (λ c κs. tt)
+    (λ c. twice K _ _ _ _ _ _ _ _ _ (more K _ _ _ _ _ _ _ (c .before .before .before .before .before .before .before .elem-conj .ensures) (c .before .before .before .before .before .before .elem-conj2 .ensures) (c .before .before .before .before .before .mul .ensures) (c .before .add .ensures)) (c .before .before .before .before .elem-conj3 .ensures) (c .before .before .before .elem-conj4 .ensures) (c .before .before .mul2 .ensures) (c .add2 .ensures)))

@@ -1,0 +1,13 @@
+use Rattle.rank_complex.proofs.Words.{_≤_, _-_, _≡_, sym, _∙_, arith, zero-literal, pair-start, pair-next, pair-end, weighedsAt, K, value}
+use Rattle.rank_complex.proofs.pairs.weighed_sum.Statement.{statement}
+use Rattle.rank_complex.proofs.pairs.weighed_sum.Tie as tie
+
+abbrev Inv-loop : tie.InvT-loop
+Inv-loop alpha plan a b i j n sum₀ p₀ sum p = (p ≤ n) × (value sum ≡ weighedsAt K plan a b (value alpha) i j p)
+
+pub weighed-sum-spec : {M : Type 1} → statement M
+weighed-sum-spec = tie.close (tie.spec
+    Inv-loop (λ alpha plan a b i j n sum₀ p₀ sum p. n - p) (λ c. (omega arith, zero-literal ∙ sym (pair-start K _ _)))
+    (λ c κs. (c .before .before .before .before .pre, omega arith)) (λ c. omega arith) (λ c. omega arith)
+    (λ c. (omega arith, pair-next K _ _ _ _ _ (c .before .before .loop .inv .1) (c .add-weighed .ensures)))
+    (λ c. pair-end K _ _ _ _ _ (c .before .loop .inv .0) (omega arith) (c .before .loop .inv .1)))
