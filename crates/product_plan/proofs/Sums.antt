@@ -3,7 +3,6 @@ use Prim.Native.Nat.{ℕ, zero, suc, _+_, _≤_, _<_, _-_}
 use mathlib.Core.Bool.{Bool, false, cond}
 use mathlib.Core.List.{List}
 use mathlib.Core.Path.{_≡_, refl, sym, ap, subst, _∙_}
-use native.Mathlib.Numerals.{add-one}
 use native.Mathlib.Omega.{arith}
 use lib.Dec.{ltb}
 use borrow.Author.Tests.{lt-ltb, le-ltb}
@@ -14,22 +13,15 @@ use Rattle.blas.specs.Matrix.{sum}
 use Rattle.blas.proofs.SumLaws.{sum-next}
 use Rattle.product_plan.specs.declared.plan.Factors.{Factors}
 use Rattle.product_plan.specs.declared.plan.Folded.{Folded}
-use Rattle.slab.proofs.RunLaws.{elem-own}
+use Rattle.slab.proofs.RunLaws.{elem-own, plus-first, plus-on, run-run}
 use Rattle.slab.specs.Run.{elemConj, plusTerms}
 use Rattle.product_plan.specs.Plan.{term, termsBefore, foldedTerm, foldedProduct}
 
 -- ---- a loop that adds terms from `from` on, at p
 
 module _ (K : Kind) (f : ℕ → K .Elem) where
-  more-step : (x : K .Elem) (from k : ℕ) → plusTerms K x f from (k + 1) ≡ K .add (plusTerms K x f from k) (f (from + k))
-  unfolding plusTerms
-  more-step x from k = rw add-one
-
   pub plus-start : (x : K .Elem) (from : ℕ) → x ≡ plusTerms K x f from (from - from)
-  unfolding plusTerms
-  plus-start x from =
-      let e : 0 ≡ from - from = omega arith in
-      ap (λ (k : ℕ). plusTerms K x f from k) e
+  plus-start x from = plus-first K f x from
 
   -- a loop that is left at p has added the terms before `end`
   pub plus-end : (x y : K .Elem) (from p end : ℕ) → p ≤ end → end ≤ p → y ≡ plusTerms K x f from (p - from) → y ≡ plusTerms K x f from (end - from)
@@ -37,22 +29,11 @@ module _ (K : Kind) (f : ℕ → K .Elem) where
       let q : p ≡ end = omega arith in
       subst (λ (m : ℕ). y ≡ plusTerms K x f from (m - from)) q e
 
-  -- one run after another is one
-  more-more : (x : K .Elem) (from m n : ℕ) → plusTerms K (plusTerms K x f from m) f (from + m) n ≡ plusTerms K x f from (m + n)
-  unfolding plusTerms
-  more-more x from m zero =
-      let e : m ≡ m + 0 = omega arith in
-      ap (λ (k : ℕ). plusTerms K x f from k) e
-  more-more x from m (suc n) =
-      let e : suc (m + n) ≡ m + suc n = omega arith in
-      let d : from + m + n ≡ from + (m + n) = omega arith in
-      (λ t. K .add (more-more x from m n t) (f (d t))) ∙ ap (λ (k : ℕ). plusTerms K x f from k) e
-
   pub plus-join : (x : K .Elem) (from k end : ℕ) → from ≤ k → k ≤ end → plusTerms K (plusTerms K x f from (k - from)) f k (end - k) ≡ plusTerms K x f from (end - from)
   plus-join x from k end h g =
       let e : k ≡ from + (k - from) = omega arith in
       let d : (k - from) + (end - k) ≡ end - from = omega arith in
-      ap (λ (z : ℕ). plusTerms K (plusTerms K x f from (k - from)) f z (end - k)) e ∙ more-more x from (k - from) (end - k) ∙ ap (λ (z : ℕ). plusTerms K x f from z) d
+      ap (λ (z : ℕ). plusTerms K (plusTerms K x f from (k - from)) f z (end - k)) e ∙ run-run K f x from (k - from) (end - k) ∙ ap (λ (z : ℕ). plusTerms K x f from z) d
 
   -- terms added to a sum are a longer sum
   more-sum : (from n : ℕ) → plusTerms K (sum K from f) f from n ≡ sum K (from + n) f
@@ -75,13 +56,7 @@ module _ (K : Kind) (f : ℕ → K .Elem) where
 module _ (K : Kind) (f : Factors) (a b : List (K .Cell)) (i j : ℕ) (x : K .Elem) (from p : ℕ) (acc u v m next : K .Elem) where
   pub term-next : from ≤ p → acc ≡ plusTerms K x (term K f a b i j) from (p - from) → u ≡ elemConj K (f .«left_conj») a (f .left) i p → v ≡ elemConj K (f .«right_conj») b (f .right) p j
       → m ≡ K .mul u v → next ≡ K .add acc m → next ≡ plusTerms K x (term K f a b i j) from (p + 1 - from)
-  term-next h e eu ev em en =
-      let q : p ≡ from + (p - from) = omega arith in
-      let k : (p - from) + 1 ≡ p + 1 - from = omega arith in
-      en
-      ∙ (λ t. K .add (e t) ((em ∙ (λ s. K .mul (eu s) (ev s)) ∙ ap (λ (z : ℕ). term K f a b i j z) q) t))
-      ∙ sym (more-step K (term K f a b i j) x from (p - from))
-      ∙ ap (λ (z : ℕ). plusTerms K x (term K f a b i j) from z) k
+  term-next h e eu ev em en = plus-on K (term K f a b i j) x from p acc m next h e (em ∙ (λ s. K .mul (eu s) (ev s))) en
 
 -- the same where the right factors are not conjugated
 pub left-next : (K : Kind) (f : Factors) (a b : List (K .Cell)) (i j : ℕ) (x : K .Elem) (from p : ℕ) (acc u v m next : K .Elem) → from ≤ p → f .«right_conj» ≡ false

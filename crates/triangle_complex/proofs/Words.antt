@@ -18,7 +18,8 @@ pub use Rattle.triangle_plan.proofs.Judged.{matrix-runs, vector-passed, vector-
 pub use Rattle.triangle_plan.proofs.LineSums.{sum-before, sum-behind}
 pub use Rattle.triangle_plan.proofs.Multiplies.{multiply-one-is}
 pub use Rattle.triangle_plan.proofs.ProductKernels.{trmm-done, trmm-refused, trmv-done, trmv-refused}
-pub use Rattle.triangle_plan.proofs.Runs.{minus-done, minus-first, minus-on, plus-done, plus-first, plus-on, run-end, span-left, span-right}
+pub use Rattle.slab.proofs.RunLaws.{plus-done, plus-first, plus-on}
+pub use Rattle.triangle_plan.proofs.Runs.{minus-done, minus-first, minus-on, run-end, span-left, span-right}
 pub use Rattle.triangle_plan.proofs.SolveKernels.{sided-gives, trsm-done, trsm-refused, trsv-done, trsv-refused}
 pub use Rattle.triangle_plan.proofs.Solves.{Clear, clear-next, clear-start, first-found, first-nowhere, lines-in, lines-solved, meets-is, solve-one-is, solved-gives, unknowns-in, vector-done, vector-stopped}
 pub use Rattle.triangle_plan.proofs.Systems.{in-row, one-line, pivot-shown, ready-for, ready-kept, ready-made, row-in, run-spans, unknown-shown, weighed}

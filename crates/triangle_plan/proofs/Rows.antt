@@ -13,7 +13,7 @@ use Rattle.slab.specs.Distinct.{Distinct}
 use Rattle.slab.specs.Eight.{Eight}
 use Rattle.slab.specs.Elem.{elem, Within}
 use Rattle.slab.specs.Run.{plusTerms}
-use Rattle.slab.proofs.RunLaws.{elem-own}
+use Rattle.slab.proofs.RunLaws.{elem-own, plus-first, plus-on, plus-done, run-run}
 use Rattle.blas.specs.Substitution.{inOrder}
 use Rattle.blas.proofs.OpLaws.{transposed-elem}
 use Rattle.blas.proofs.SubstitutionLaws.{in-order-lt}
@@ -24,7 +24,6 @@ use Rattle.triangle_plan.specs.Multiply.{ownDiag, own, lineTerm, ownFirs
 use Rattle.triangle_plan.specs.Triangles.{coefficient}
 use Rattle.triangle_plan.specs.Ready.{ReadyAt, RowsReady}
 use Rattle.triangle_plan.proofs.LineSums.{more-cong, line-behind, line-before}
-use Rattle.triangle_plan.proofs.Runs.{plus-first, plus-on, plus-done}
 use Rattle.triangle_plan.proofs.WalkLaws.{walk-cong}
 
 -- ---- what the rows read
@@ -71,17 +70,6 @@ module _ (K : Kind) (S : SelfConjugate K) (C : Commutes K) (y : System) (a b : L
 
 -- ---- a row's pieces are its sum
 
--- one run after another is one
-more-more : (K : Kind) (f : ℕ → K .Elem) (x : K .Elem) (from m n : ℕ) → plusTerms K (plusTerms K x f from m) f (from + m) n ≡ plusTerms K x f from (m + n)
-unfolding plusTerms
-more-more K f x from m zero =
-    let e : m ≡ m + 0 = omega arith in
-    ap (λ (k : ℕ). plusTerms K x f from k) e
-more-more K f x from m (suc n) =
-    let e : suc (m + n) ≡ m + suc n = omega arith in
-    let d : from + m + n ≡ from + (m + n) = omega arith in
-    (λ i. K .add (more-more K f x from m n i) (f (d i))) ∙ ap (λ (k : ℕ). plusTerms K x f from k) e
-
 module _ (K : Kind) (y : System) (a s : List (K .Cell)) (q : ℕ) (xs rs : List (K .Cell)) where
   -- the own term, those behind it among the eight, and those behind the eight
   pub rows-behind : (m : ℕ) → y .last ≡ true → m ≡ y .b .rows → q + 8 ≤ m → Eight K xs (λ t. ownFirst K y a s (q + t) 0 (7 - t))
@@ -93,7 +81,7 @@ module _ (K : Kind) (y : System) (a s : List (K .Cell)) (q : ℕ) (xs rs : List 
           let d : q + 8 ≡ suc (q + t) + (7 - t) = omega arith in
           let c : (7 - t) + (m - 8 - q) ≡ m - 1 - (q + t) = omega arith in
           (λ i. plusTerms K (near .sum t g i) (lineTerm K y a s (q + t) 0) (d i) (m - 8 - q))
-          ∙ more-more K (lineTerm K y a s (q + t) 0) (K .add (K .zero) (own K y a s (q + t) 0)) (suc (q + t)) (7 - t) (m - 8 - q)
+          ∙ run-run K (lineTerm K y a s (q + t) 0) (K .add (K .zero) (own K y a s (q + t) 0)) (suc (q + t)) (7 - t) (m - 8 - q)
           ∙ ap (ownFirst K y a s (q + t) 0) c
 
   -- the terms before the eight, those before the own one among the eight, and the own one
@@ -108,7 +96,7 @@ module _ (K : Kind) (y : System) (a s : List (K .Cell)) (q : ℕ) (xs rs : List 
           let c : q + (q + t - q) ≡ q + t = omega arith in
           ap (λ (x : K .Elem). K .add x (own K y a s (q + t) 0))
           ((λ i. plusTerms K ((far .sum t g ∙ ap (λ (x : K .Elem). plusTerms K x (lineTerm K y a s (q + t) 0) 0 q) (none .sum t g ∙ begun)) i) (lineTerm K y a s (q + t) 0) (d i) (q + t - q))
-          ∙ more-more K (lineTerm K y a s (q + t) 0) (K .zero) 0 q (q + t - q)
+          ∙ run-run K (lineTerm K y a s (q + t) 0) (K .zero) 0 q (q + t - q)
           ∙ ap (plusTerms K (K .zero) (lineTerm K y a s (q + t) 0) 0) c)
 
 -- ---- worked out before any of them is written

@@ -10,22 +10,9 @@ use Rattle.view.specs.declared.View.{View}
 use Rattle.slab.specs.Eight.{Eight}
 use Rattle.slab.specs.Elem.{elem, Within}
 use Rattle.slab.specs.Run.{elemConj, plusTerms, Spans}
-use Rattle.slab.proofs.RunLaws.{plus-start, plus-next}
+use Rattle.slab.proofs.RunLaws.{one-more, all, there, plus-first, plus-on, plus-done}
 use Rattle.blas.specs.Substitution.{minusTerms}
 use Rattle.blas.proofs.SubstitutionLaws.{minus-start, minus-next}
-
--- how many terms there are before term p, and before the next
-none : (from : ℕ) → 0 ≡ from - from
-none from = omega arith
-
-one-more : (from p : ℕ) → from ≤ p → p - from + 1 ≡ p + 1 - from
-one-more from p h = omega arith
-
-all : (from n p end : ℕ) → end ≡ from + n → p ≤ end → end ≤ p → p - from ≡ n
-all from n p end e h g = omega arith
-
-there : (from p : ℕ) → from ≤ p → p ≡ from + (p - from)
-there from p h = omega arith
 
 -- a run ends at a number of 64 bits
 pub run-end : (va : View) (la : ℕ) (vb : View) (lb i j from n : ℕ) → Spans va la vb lb i j from n → from < 2 ^ 64 → from + n < 2 ^ 64
@@ -42,22 +29,15 @@ module _ (va : View) (la : ℕ) (vb : View) (lb i j from n : ℕ) (s : Spans va 
 
 module _ (K : Kind) (f : ℕ → K .Elem) (x : K .Elem) (from : ℕ) where
   pub minus-first : x ≡ minusTerms K x f from (from - from)
-  minus-first = sym (minus-start K x f from) ∙ ap (minusTerms K x f from) (none from)
+  minus-first =
+      let none : 0 ≡ from - from = omega arith in
+      sym (minus-start K x f from) ∙ ap (minusTerms K x f from) none
 
   pub minus-on : (p : ℕ) (y z w : K .Elem) → from ≤ p → y ≡ minusTerms K x f from (p - from) → z ≡ f p → w ≡ K .sub y z → w ≡ minusTerms K x f from (p + 1 - from)
   minus-on p y z w h e g d = minus-next K x f from (p - from) y z w e (g ∙ ap f (there from p h)) d ∙ ap (minusTerms K x f from) (one-more from p h)
 
   pub minus-done : (n p end : ℕ) (y : K .Elem) → end ≡ from + n → p ≤ end → end ≤ p → y ≡ minusTerms K x f from (p - from) → y ≡ minusTerms K x f from n
   minus-done n p end y c h g e = e ∙ ap (minusTerms K x f from) (all from n p end c h g)
-
-  pub plus-first : x ≡ plusTerms K x f from (from - from)
-  plus-first = plus-start K f x from ∙ ap (plusTerms K x f from) (none from)
-
-  pub plus-on : (p : ℕ) (y z w : K .Elem) → from ≤ p → y ≡ plusTerms K x f from (p - from) → z ≡ f p → w ≡ K .add y z → w ≡ plusTerms K x f from (p + 1 - from)
-  plus-on p y z w h e g d = plus-next K f x from (p - from) y z w e (g ∙ ap f (there from p h)) d ∙ ap (plusTerms K x f from) (one-more from p h)
-
-  pub plus-done : (n p end : ℕ) (y : K .Elem) → end ≡ from + n → p ≤ end → end ≤ p → y ≡ plusTerms K x f from (p - from) → y ≡ plusTerms K x f from n
-  plus-done n p end y c h g e = e ∙ ap (plusTerms K x f from) (all from n p end c h g)
 
 -- eight numbers, each worked out from its own
 pub eight-then : (K : Kind) (g : K .Elem → K .Elem) (f : ℕ → K .Elem) (xs ys : List (K .Cell)) → Eight K xs f → Eight K ys (λ t. g (K .at xs t)) → Eight K ys (λ t. g (f t))

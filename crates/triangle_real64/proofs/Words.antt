@@ -23,7 +23,8 @@ pub use Rattle.triangle_plan.proofs.Lines.{element-after-element, multiply-eigh
 pub use Rattle.triangle_plan.proofs.Multiplies.{multiply-one-is, only-line}
 pub use Rattle.triangle_plan.proofs.ProductKernels.{trmm-done, trmm-refused, trmv-done, trmv-refused}
 pub use Rattle.triangle_plan.proofs.Rows.{row-ready, rows-before, rows-behind, rows-done, rows-eight-is, rows-first, rows-on, rows-shown}
-pub use Rattle.triangle_plan.proofs.Runs.{eight-then, less-done, less-first, less-on, minus-done, minus-first, minus-on, more-done, more-first, more-on, plus-done, plus-first, plus-on, run-end, span-left, span-right}
+pub use Rattle.slab.proofs.RunLaws.{plus-done, plus-first, plus-on}
+pub use Rattle.triangle_plan.proofs.Runs.{eight-then, less-done, less-first, less-on, minus-done, minus-first, minus-on, more-done, more-first, more-on, run-end, span-left, span-right}
 pub use Rattle.triangle_plan.proofs.SolveKernels.{sided-gives, trsm-done, trsm-refused, trsv-done, trsv-refused}
 pub use Rattle.triangle_plan.proofs.Solves.{Clear, clear-next, clear-start, first-found, first-nowhere, lines-in, lines-solved, meets-is, solve-one-is, solved-gives, unknowns-in, vector-done, vector-stopped}
 pub use Rattle.triangle_plan.proofs.Systems.{in-row, one-line, pivot-shown, ready-for, ready-kept, ready-made, row-in, run-spans, unknown-shown, weighed}
