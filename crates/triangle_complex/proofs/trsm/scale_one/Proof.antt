@@ -1,4 +1,4 @@
--- The place and the product that is put there are those of the fold's one element (updateOne), by the calls' contracts.
+-- What is put at the element's place is alpha times what it read there (Update: updateOne).
 use Rattle.triangle_complex.proofs.Words.{ap, _∙_, now, arith, updateOne, shown, inside, needs, K}
 use Rattle.triangle_complex.proofs.trsm.scale_one.Statement.{statement}
 use Rattle.triangle_complex.proofs.trsm.scale_one.Tie as tie

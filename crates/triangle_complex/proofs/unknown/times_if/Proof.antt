@@ -1,4 +1,4 @@
--- Either way is the definition's timesIf: the product where asked, else x.
+-- The product with alpha where asked, else x as it is (Triangles: timesIf).
 use Rattle.triangle_complex.proofs.Words.{needs}
 use Rattle.triangle_complex.proofs.unknown.times_if.Statement.{statement}
 use Rattle.triangle_complex.proofs.unknown.times_if.Tie as tie
