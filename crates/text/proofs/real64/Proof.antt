@@ -1,3 +1,4 @@
+-- The bits are asked of a number that equals itself, which is no NaN (NotNan: equals-itself).
 use Rattle.text.proofs.Words.{needs, equals-itself}
 use Rattle.text.proofs.real64.Statement.{statement}
 use Rattle.text.proofs.real64.Tie as tie

@@ -1,3 +1,4 @@
+-- The number is cut to a whole one only where both tests have passed: above -1 and below 2^64, as the cut asks.
 use Rattle.text.proofs.Words.{sym, subst, T, ofBits, neg, needs}
 use Rattle.text.proofs.whole_part.Statement.{statement}
 use Rattle.text.proofs.whole_part.Tie as tie

@@ -1,3 +1,4 @@
+-- Counted from the last or from the first (Eights: eightFrom): either way the eight are among the m, by k + 8 ≤ m.
 use Rattle.triangle_plan.proofs.Words.{arith, refl, needs}
 use Rattle.triangle_plan.proofs.eight_from.Statement.{statement}
 use Rattle.triangle_plan.proofs.eight_from.Tie as tie

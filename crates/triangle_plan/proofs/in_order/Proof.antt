@@ -1,3 +1,4 @@
+-- Counted from the last or from the first (Substitution: inOrder): either way it is one of the m, by k < m.
 use Rattle.triangle_plan.proofs.Words.{arith, refl, needs}
 use Rattle.triangle_plan.proofs.in_order.Statement.{statement}
 use Rattle.triangle_plan.proofs.in_order.Tie as tie

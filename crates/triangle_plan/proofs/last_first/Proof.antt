@@ -1,3 +1,4 @@
+-- The side is matched: on the left where op(A) is upper, on the right where it is not (Substitution: lastFirst).
 use Rattle.triangle_plan.proofs.Words.{needs}
 use Rattle.triangle_plan.proofs.last_first.Statement.{statement}
 use Rattle.triangle_plan.proofs.last_first.Tie as tie

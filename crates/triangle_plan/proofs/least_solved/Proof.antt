@@ -1,3 +1,4 @@
+-- The last k or the first k (Substitution: leastSolved): either way they are among the m, by k < m.
 use Rattle.triangle_plan.proofs.Words.{arith, refl, needs}
 use Rattle.triangle_plan.proofs.least_solved.Statement.{statement}
 use Rattle.triangle_plan.proofs.least_solved.Tie as tie

@@ -1,3 +1,4 @@
+-- The side is matched: on the left the view as it is, on the right transposed (Triangles: linesView).
 use Rattle.triangle_plan.proofs.Words.{needs}
 use Rattle.triangle_plan.proofs.lines_view.Statement.{statement}
 use Rattle.triangle_plan.proofs.lines_view.Tie as tie

@@ -1,3 +1,4 @@
+-- With lines it stops where k is below the rows, without lines never (Solve: stops; AnyLaws: and-no-left).
 use Rattle.triangle_plan.proofs.Words.{ℕ, _<_, _≤_, Bool, false, _&&_, _≡_, ap, sym, _∙_, arith, lt-ltb, le-ltb, needs, ltb, and-no-left, System, stops}
 use Rattle.triangle_plan.proofs.stops.Statement.{statement}
 use Rattle.triangle_plan.proofs.stops.Tie as tie

@@ -1,3 +1,4 @@
+-- Field by field the definition's system (Triangles: systemOf), from the contracts of what it calls.
 use Rattle.triangle_plan.proofs.Words.{ap, _∙_, linesView, needs}
 use Rattle.triangle_plan.proofs.system_of.Statement.{statement}
 use Rattle.triangle_plan.proofs.system_of.Tie as tie

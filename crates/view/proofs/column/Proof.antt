@@ -1,4 +1,4 @@
--- `column` meets its contract: the stride is the one along which the vector lies.
+-- The stride is the one along which the vector lies (VectorLaws: upright-stride), the rows its length (JudgeLaws: vector-sizes).
 use Rattle.view.proofs.Words.{needs, sym, ap, _∙_, pos, w64, toZ-ofZ, View, upright-start, upright-stride, vector-sizes}
 use Rattle.view.proofs.column.Statement.{statement}
 use Rattle.view.proofs.column.Tie as tie

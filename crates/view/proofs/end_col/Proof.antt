@@ -1,3 +1,4 @@
+-- The triangle is matched: all n columns, or those up to the diagonal (Triangle: endCol); i < n keeps i + 1 in range.
 use Rattle.view.proofs.Words.{needs}
 use Rattle.view.proofs.end_col.Statement.{statement}
 use Rattle.view.proofs.end_col.Tie as tie

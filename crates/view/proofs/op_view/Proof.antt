@@ -1,3 +1,4 @@
+-- Trans is matched: the view as it is, or transposed (Place: opViewOf).
 use Rattle.view.proofs.Words.{needs}
 use Rattle.view.proofs.op_view.Statement.{statement}
 use Rattle.view.proofs.op_view.Tie as tie

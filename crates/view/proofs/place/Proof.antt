@@ -1,4 +1,4 @@
--- `place` meets its contract. Each step fits, and what the machine reads back from its bits is the number of the formula.
+-- Each step fits, and what the machine reads back from its bits is the number of the formula (Placed: sound).
 use Rattle.view.proofs.Words.{_≡_, sym, ap, _∙_, subst, _^_, _<_, arith, T, ℤ, pos, natAbs, _+ℤ_, _*ℤ_, nonNeg, w64, Fits, SFits, toZ, ofZ, toZ-ofZ, toZ-pos, index, Sound, sound}
 use Rattle.view.proofs.place.Statement.{statement}
 use Rattle.view.proofs.place.Tie as tie

@@ -1,4 +1,4 @@
--- `steps` meets its contract. What the machine reads back from the bits of k and of the stride are those numbers.
+-- What the machine reads back from the bits of k and of the stride are those numbers, so the product is theirs (toZ-pos, toZ-ofZ).
 use Rattle.view.proofs.Words.{needs, _≡_, sym, _∙_, subst, pos, _*ℤ_, w64, SFits, toZ, ofZ, toZ-ofZ, toZ-pos}
 use Rattle.view.proofs.steps.Statement.{statement}
 use Rattle.view.proofs.steps.Tie as tie

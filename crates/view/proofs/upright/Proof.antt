@@ -1,3 +1,4 @@
+-- The test is the definition's: as it is where the columns are no more than the rows, else transposed (Vector: uprightOf).
 use Rattle.view.proofs.Words.{needs, ap, sym, _∙_, Bool, cond, le-leb, lt-leb, transposedOf}
 use Rattle.view.proofs.upright.Statement.{statement}
 use Rattle.view.proofs.upright.Tie as tie

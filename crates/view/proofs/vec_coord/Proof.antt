@@ -1,4 +1,4 @@
--- `vec_coord` meets its contract: the test is the definition's.
+-- The test is the definition's: down the rows where the columns are no more, else along them (Vector: vecCoord).
 use Rattle.view.proofs.Words.{le-leb, lt-leb, vecCoord}
 use Rattle.view.proofs.vec_coord.Statement.{statement}
 use Rattle.view.proofs.vec_coord.Tie as tie

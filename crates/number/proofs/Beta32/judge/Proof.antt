@@ -1,3 +1,4 @@
+-- Clear where beta is zero, Keep where it is one, else the factor: the two tests choose as the definition does (Scaling: judged).
 use Rattle.number.proofs.Words.{needs}
 use Rattle.number.proofs.Beta32.judge.Statement.{statement}
 use Rattle.number.proofs.Beta32.judge.Tie as tie

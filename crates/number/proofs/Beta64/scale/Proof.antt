@@ -1,3 +1,4 @@
+-- Beta is matched: +0 by its literal (Literals: zero-literal), the number as it is, or the product with the factor.
 use Rattle.number.proofs.Words.{binary64, zero-literal, needs}
 use Rattle.number.proofs.Beta64.scale.Statement.{statement}
 use Rattle.number.proofs.Beta64.scale.Tie as tie

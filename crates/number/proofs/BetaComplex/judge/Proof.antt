@@ -1,3 +1,4 @@
+-- The parts are tested, the imaginary one first: Clear, Keep or the factor, as the definition judges (Scaling: judged).
 use Rattle.number.proofs.Words.{needs, _≡_, refl, Bool, true, false, _&&_}
 use Rattle.number.proofs.BetaComplex.judge.Statement.{statement}
 use Rattle.number.proofs.BetaComplex.judge.Tie as tie

@@ -1,3 +1,4 @@
+-- Beta is matched: zero by its literals (Literals: zero-literal), the number as it is, or what the factor makes of it (times).
 use Rattle.number.proofs.Words.{binary64, zero-literal, needs}
 use Rattle.number.proofs.BetaComplex.scale.Statement.{statement}
 use Rattle.number.proofs.BetaComplex.scale.Tie as tie

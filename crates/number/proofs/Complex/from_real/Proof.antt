@@ -1,3 +1,4 @@
+-- The real number with the imaginary part +0, which is the literal 0.0 (Literals: zero-literal).
 use Rattle.number.proofs.Words.{binary64, zero-literal}
 use Rattle.number.proofs.Complex.from_real.Statement.{statement}
 use Rattle.number.proofs.Complex.from_real.Tie as tie

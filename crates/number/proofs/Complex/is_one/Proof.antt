@@ -1,3 +1,4 @@
+-- The real part is one and the imaginary part zero: the second test counts only where the first passes (Kind: isOne).
 use Rattle.number.proofs.Words.{needs}
 use Rattle.number.proofs.Complex.is_one.Statement.{statement}
 use Rattle.number.proofs.Complex.is_one.Tie as tie

@@ -1,3 +1,4 @@
+-- Both parts are zero: the second test counts only where the first passes (Kind: isZero).
 use Rattle.number.proofs.Words.{needs}
 use Rattle.number.proofs.Complex.is_zero.Statement.{statement}
 use Rattle.number.proofs.Complex.is_zero.Tie as tie

@@ -1,4 +1,4 @@
--- `one` meets its contract: the literals are 1 and +0.
+-- The parts are the literals 1.0 and 0.0, which are one and +0 (Literals: one-literal64, zero-literal).
 use Rattle.number.proofs.Words.{binary64, zero-literal, one-literal64}
 use Rattle.number.proofs.Complex.one.Statement.{statement}
 use Rattle.number.proofs.Complex.one.Tie as tie

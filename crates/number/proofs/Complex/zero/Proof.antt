@@ -1,4 +1,4 @@
--- `zero` meets its contract: both literals are +0.
+-- Both parts are the literal 0.0, which is +0 (Literals: zero-literal).
 use Rattle.number.proofs.Words.{binary64, zero-literal}
 use Rattle.number.proofs.Complex.zero.Statement.{statement}
 use Rattle.number.proofs.Complex.zero.Tie as tie

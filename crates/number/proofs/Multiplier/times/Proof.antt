@@ -1,3 +1,4 @@
+-- The multiplier is matched: the product with a number, or scale_real of a real one (Scaling: times).
 use Rattle.number.proofs.Words.{needs}
 use Rattle.number.proofs.Multiplier.times.Statement.{statement}
 use Rattle.number.proofs.Multiplier.times.Tie as tie

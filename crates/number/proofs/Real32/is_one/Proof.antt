@@ -1,3 +1,4 @@
+-- The number is compared with the literal 1.0, which is one (Literals: one-literal32).
 use Rattle.number.proofs.Words.{one-literal32}
 use Rattle.number.proofs.Real32.is_one.Statement.{statement}
 use Rattle.number.proofs.Real32.is_one.Tie as tie

@@ -1,4 +1,4 @@
--- `one` meets its contract: the literal 1.0 is ONE.
+-- The literal 1.0 is one (Literals: one-literal32).
 use Rattle.number.proofs.Words.{one-literal32}
 use Rattle.number.proofs.Real32.one.Statement.{statement}
 use Rattle.number.proofs.Real32.one.Tie as tie

@@ -1,3 +1,4 @@
+-- The product, with the factor taken as a number on the left, is the definition's (Kind: scaleReal), by from_real and mul.
 use Rattle.number.proofs.Words.{_∙_, ap, Float, binary32, mul, needs}
 use Rattle.number.proofs.Real32.scale_real.Statement.{statement}
 use Rattle.number.proofs.Real32.scale_real.Tie as tie

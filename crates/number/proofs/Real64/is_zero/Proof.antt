@@ -1,3 +1,4 @@
+-- The number is compared with the literal 0.0, which is +0 (Literals: zero-literal).
 use Rattle.number.proofs.Words.{binary64, zero-literal}
 use Rattle.number.proofs.Real64.is_zero.Statement.{statement}
 use Rattle.number.proofs.Real64.is_zero.Tie as tie

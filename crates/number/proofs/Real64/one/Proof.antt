@@ -1,4 +1,4 @@
--- `one` meets its contract: the literal 1.0 is ONE.
+-- The literal 1.0 is one (Literals: one-literal64).
 use Rattle.number.proofs.Words.{one-literal64}
 use Rattle.number.proofs.Real64.one.Statement.{statement}
 use Rattle.number.proofs.Real64.one.Tie as tie

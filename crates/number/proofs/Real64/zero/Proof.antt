@@ -1,4 +1,4 @@
--- `zero` meets its contract: the literal 0.0 is ZERO.
+-- The literal 0.0 is +0 (Literals: zero-literal).
 use Rattle.number.proofs.Words.{binary64, zero-literal}
 use Rattle.number.proofs.Real64.zero.Statement.{statement}
 use Rattle.number.proofs.Real64.zero.Tie as tie

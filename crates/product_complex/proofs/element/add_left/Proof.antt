@@ -1,3 +1,4 @@
+-- The sum is the run so far; each turn adds one term, its right factor not conjugated (Sums: left-next, plus-end).
 use Rattle.product_complex.proofs.Words.{_≤_, _-_, _≡_, arith, now, plusTerms, term, plus-start, plus-end, left-next, K}
 use Rattle.product_complex.proofs.element.add_left.Statement.{statement}
 use Rattle.product_complex.proofs.element.add_left.Tie as tie

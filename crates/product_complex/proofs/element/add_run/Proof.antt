@@ -1,3 +1,4 @@
+-- The sum is the run so far; each turn adds one term (Sums: term-next, plus-end).
 use Rattle.product_complex.proofs.Words.{_≤_, _-_, _≡_, arith, now, plusTerms, term, plus-start, plus-end, term-next, K}
 use Rattle.product_complex.proofs.element.add_run.Statement.{statement}
 use Rattle.product_complex.proofs.element.add_run.Tie as tie

@@ -1,3 +1,4 @@
+-- The element with its turn found: turn_at gives the terms before it (Plan: termsBefore), as turned_entry asks.
 use Rattle.product_complex.proofs.Words.{needs}
 use Rattle.product_complex.proofs.element.folded_entry.Statement.{statement}
 use Rattle.product_complex.proofs.element.folded_entry.Tie as tie

@@ -1,3 +1,4 @@
+-- What is put at the element's place is its scaled old number plus alpha times the sum (Rows: put-replaced).
 use Rattle.product_complex.proofs.Words.{arith, now, needs, times, shown, inside, put-replaced, K, scaleBy}
 use Rattle.product_complex.proofs.element.settle.Statement.{statement}
 use Rattle.product_complex.proofs.element.settle.Tie as tie

@@ -1,3 +1,4 @@
+-- The runs before and after the turn are the whole sum, and the element is settled with it (Sums: folded-sum; Rows: entry-put).
 use Rattle.product_complex.proofs.Words.{arith, now, needs, zero-literal, times, folded-sum, entry-put, spans, K, scaleBy}
 use Rattle.product_complex.proofs.element.turned_entry.Statement.{statement}
 use Rattle.product_complex.proofs.element.turned_entry.Tie as tie

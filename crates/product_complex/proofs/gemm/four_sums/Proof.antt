@@ -1,4 +1,4 @@
--- Each term goes into the four sums (Eights: sums-next).
+-- Each turn adds a term to each of the four sums (Eights: sums-next, sums-end).
 use Rattle.product_complex.proofs.Words.{_≤_, _+_, _-_, arith, now, zero-literal, Lanes, four-of, sum, term, sums-start, sums-next, sums-end, K}
 use Rattle.product_complex.proofs.gemm.four_sums.Statement.{statement}
 use Rattle.product_complex.proofs.gemm.four_sums.Tie as tie

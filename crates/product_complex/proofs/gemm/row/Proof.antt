@@ -1,3 +1,4 @@
+-- Element after element of the row (LoopLaws: put-next, row-last).
 use Rattle.product_complex.proofs.Words.{row-begun, ℕ, _≤_, _-_, _/_, _≡_, refl, ap, _∙_, arith, length, times, everywhere, updateRow, row-last, put-next, planChange, ready-kept, K, scaleBy}
 use Rattle.product_complex.proofs.gemm.row.Statement.{statement}
 use Rattle.product_complex.proofs.gemm.row.Tie as tie

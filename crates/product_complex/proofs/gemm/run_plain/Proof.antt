@@ -1,3 +1,4 @@
+-- Row after row of the fold (LoopLaws: rows-next, rows-last).
 use Rattle.product_complex.proofs.Words.{rows-begun, ℕ, _≤_, _-_, _/_, _≡_, refl, ap, _∙_, arith, length, times, everywhere, updateRows, rows-next, rows-last, planChange, ready-kept, K, scaleBy}
 use Rattle.product_complex.proofs.gemm.run_plain.Statement.{statement}
 use Rattle.product_complex.proofs.gemm.run_plain.Tie as tie

@@ -1,4 +1,4 @@
--- Column after column of the block is settled (slab: span).
+-- Column after column of the block is settled (Rows: entry-put; LoopLaws: span-next, span-end).
 use Rattle.product_complex.proofs.Words.{ℕ, _≤_, _-_, _/_, _≡_, refl, ap, _∙_, arith, length, times, span, span-start, span-next, span-end, accumulate, entry-put, accepted-kept, K, scaleBy}
 use Rattle.product_complex.proofs.gemm.settle_four.Statement.{statement}
 use Rattle.product_complex.proofs.gemm.settle_four.Tie as tie

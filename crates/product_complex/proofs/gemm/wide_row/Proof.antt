@@ -1,4 +1,4 @@
--- Block after block is the row so far (Eights: block-settled).
+-- Block after block is the row so far (Eights: block-settled; LoopLaws: span-after, row-last).
 use Rattle.product_complex.proofs.Words.{row-begun, ℕ, _≤_, _+_, _-_, _/_, _≡_, refl, ap, _∙_, arith, length, now, times, everywhere, updateRow, row-last, span-after, product, planChange, ready-kept, block-settled, K, scaleBy}
 use Rattle.product_complex.proofs.gemm.wide_row.Statement.{statement}
 use Rattle.product_complex.proofs.gemm.wide_row.Tie as tie

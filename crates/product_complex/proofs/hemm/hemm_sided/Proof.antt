@@ -1,3 +1,4 @@
+-- The side is matched: hemm_left, or the loop of the plan of A on the right (Plans: rightPlan).
 use Rattle.product_complex.proofs.Words.{needs}
 use Rattle.product_complex.proofs.hemm.hemm_sided.Statement.{statement}
 use Rattle.product_complex.proofs.hemm.hemm_sided.Tie as tie

@@ -1,3 +1,4 @@
+-- Row after row of the fold (LoopLaws: rows-next, rows-last).
 use Rattle.product_complex.proofs.Words.{rows-begun, ℕ, _≤_, _-_, _/_, _≡_, refl, ap, _∙_, arith, length, times, everywhere, updateRows, rows-next, rows-last, foldedChange, folded-kept, K, scaleBy}
 use Rattle.product_complex.proofs.hemm.run_hemm_right.Statement.{statement}
 use Rattle.product_complex.proofs.hemm.run_hemm_right.Tie as tie

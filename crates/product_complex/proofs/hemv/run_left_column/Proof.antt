@@ -1,3 +1,4 @@
+-- A row of the target is one element, and row after row is the fold (LoopLaws: column-next, rows-last).
 use Rattle.product_complex.proofs.Words.{rows-begun, ℕ, _≤_, _-_, _/_, _≡_, refl, ap, _∙_, arith, length, times, everywhere, updateRows, rows-last, column-next, foldedChange, folded-kept, K, scaleBy}
 use Rattle.product_complex.proofs.hemv.run_left_column.Statement.{statement}
 use Rattle.product_complex.proofs.hemv.run_left_column.Tie as tie

@@ -1,3 +1,4 @@
+-- From its first column in the triangle to its last, column after column (LoopLaws: span-next; Rows: span-last; Columns: row-columns).
 use Rattle.product_complex.proofs.Words.{ℕ, _≤_, _-_, _/_, _≡_, refl, ap, _∙_, arith, length, times, planChange, span, span-start, span-next, span-last, row-columns, ready-kept, K, scaleBy}
 use Rattle.product_complex.proofs.herk.herk_row.Statement.{statement}
 use Rattle.product_complex.proofs.herk.herk_row.Tie as tie

@@ -1,3 +1,4 @@
+-- The triangle is matched, and its loop runs the plan of A on the left (Plans: leftPlan), which is the work of that side.
 use Rattle.product_complex.proofs.Words.{needs}
 use Rattle.product_complex.proofs.symm.symm_left.Statement.{statement}
 use Rattle.product_complex.proofs.symm.symm_left.Tie as tie

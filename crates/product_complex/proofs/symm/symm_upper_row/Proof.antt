@@ -1,3 +1,4 @@
+-- Element after element of the row, all turning at the same term (LoopLaws: put-next, row-last).
 use Rattle.product_complex.proofs.Words.{row-begun, ℕ, _≤_, _-_, _/_, _≡_, refl, ap, _∙_, arith, length, times, everywhere, updateRow, row-last, put-next, foldedChange, folded-kept, K, scaleBy}
 use Rattle.product_complex.proofs.symm.symm_upper_row.Statement.{statement}
 use Rattle.product_complex.proofs.symm.symm_upper_row.Tie as tie

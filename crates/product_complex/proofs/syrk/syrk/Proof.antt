@@ -1,3 +1,4 @@
+-- A refused call leaves its slab; a passed one does the plan's work (Kernels: syrk-refused, syrk-done).
 use Rattle.product_complex.proofs.Words.{_∙_, ap, refl, needs, syrk-refused, syrk-runs, syrk-done, scale-by, K, scaleBy}
 use Rattle.product_complex.proofs.syrk.syrk.Statement.{statement}
 use Rattle.product_complex.proofs.syrk.syrk.Tie as tie

@@ -1,3 +1,4 @@
+-- The turn is matched: at or past the row, at or past the column (Plan: termsBefore); the bound on it keeps i + 1 and j + 1 in range.
 use Rattle.product_plan.proofs.Words.{needs}
 use Rattle.product_plan.proofs.plan.turn_at.Statement.{statement}
 use Rattle.product_plan.proofs.plan.turn_at.Tie as tie

@@ -1,3 +1,4 @@
+-- The plan of op(A) with x and y as columns (Plans: columnPlan), put together from the contracts of column and gemm_plan.
 use Rattle.product_plan.proofs.Words.{needs}
 use Rattle.product_plan.proofs.routines.gemv_plan.Statement.{statement}
 use Rattle.product_plan.proofs.routines.gemv_plan.Tie as tie

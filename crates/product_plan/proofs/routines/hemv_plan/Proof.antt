@@ -1,3 +1,4 @@
+-- The plan of A on the left of x as a column, conjugating (Plans: hemvPlan), put together from those of column and left_plan.
 use Rattle.product_plan.proofs.Words.{needs, _≡_, sym, subst, true, ℕ, vectorOf}
 use Rattle.product_plan.proofs.routines.hemv_plan.Statement.{statement}
 use Rattle.product_plan.proofs.routines.hemv_plan.Tie as tie

@@ -1,3 +1,4 @@
+-- The plan of A by its own conjugate transpose (Plans: herkPlan), put together from the contracts of what it calls.
 use Rattle.product_plan.proofs.Words.{needs}
 use Rattle.product_plan.proofs.routines.herk_plan.Statement.{statement}
 use Rattle.product_plan.proofs.routines.herk_plan.Tie as tie

@@ -1,3 +1,4 @@
+-- The head is mirrored where the tail is not, by the triangle (Plans: leftPlan): put together from the contracts of what it calls.
 use Rattle.product_plan.proofs.Words.{needs}
 use Rattle.product_plan.proofs.routines.left_plan.Statement.{statement}
 use Rattle.product_plan.proofs.routines.left_plan.Tie as tie

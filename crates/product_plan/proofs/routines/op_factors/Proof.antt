@@ -1,3 +1,4 @@
+-- The views of op(A) and op(B) and whether they conjugate (Plans: opFactors), put together from op_view and conjugates.
 use Rattle.product_plan.proofs.Words.{needs}
 use Rattle.product_plan.proofs.routines.op_factors.Statement.{statement}
 use Rattle.product_plan.proofs.routines.op_factors.Tie as tie

@@ -1,3 +1,4 @@
+-- The factors of op(A) and op(B), the terms and the target (Plans: opPlan), put together from op_factors.
 use Rattle.product_plan.proofs.Words.{needs}
 use Rattle.product_plan.proofs.routines.op_plan.Statement.{statement}
 use Rattle.product_plan.proofs.routines.op_plan.Tie as tie

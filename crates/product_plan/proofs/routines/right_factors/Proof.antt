@@ -1,3 +1,4 @@
+-- Either way is the definition's (Plans: rightFactors): A transposed and conjugated where mirrored, else as it is.
 use Rattle.product_plan.proofs.Words.{needs}
 use Rattle.product_plan.proofs.routines.right_factors.Statement.{statement}
 use Rattle.product_plan.proofs.routines.right_factors.Tie as tie

@@ -1,3 +1,4 @@
+-- The plan of A by its own transpose (Plans: syrkPlan), put together from the contracts of what it calls.
 use Rattle.product_plan.proofs.Words.{needs}
 use Rattle.product_plan.proofs.routines.syrk_plan.Statement.{statement}
 use Rattle.product_plan.proofs.routines.syrk_plan.Tie as tie

@@ -1,4 +1,4 @@
--- Each term goes into the eight sums (Eights).
+-- Each turn adds a term to each of the eight sums (Eights: eight-next, eight-end).
 use Rattle.product_real32.proofs.Words.{_≤_, _+_, _-_, refl, arith, now, good-length, cell, Eight, plusTerms, term, eight-start, eight-next, eight-end, self-conjugate, K}
 use Rattle.product_real32.proofs.element.add_apart.Statement.{statement}
 use Rattle.product_real32.proofs.element.add_apart.Tie as tie

@@ -1,4 +1,4 @@
--- Beside where the column stride is 1, else apart.
+-- Either way adds the same terms (Run: plusTerms): side by side where the column stride is 1, else apart.
 use Rattle.product_real32.proofs.Words.{sym, ap, _∙_, w64, toZ, toZ-ofZ, needs}
 use Rattle.product_real32.proofs.element.add_eight.Statement.{statement}
 use Rattle.product_real32.proofs.element.add_eight.Tie as tie

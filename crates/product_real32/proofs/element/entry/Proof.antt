@@ -1,3 +1,4 @@
+-- The run from a zero sum is the whole sum, and the element is settled with it (Sums: sum-whole; Rows: entry-put).
 use Rattle.product_real32.proofs.Words.{arith, now, needs, zero-literal, sum-whole, entry-put, spans, K, scaleBy, value}
 use Rattle.product_real32.proofs.element.entry.Statement.{statement}
 use Rattle.product_real32.proofs.element.entry.Tie as tie

@@ -1,3 +1,4 @@
+-- What is put at the element's place is its scaled old number plus alpha times the sum (Rows: put-replaced).
 use Rattle.product_real32.proofs.Words.{arith, now, needs, shown, inside, put-replaced, K, scaleBy, value}
 use Rattle.product_real32.proofs.element.settle.Statement.{statement}
 use Rattle.product_real32.proofs.element.settle.Tie as tie

@@ -1,4 +1,4 @@
--- A run before the turn and one after it.
+-- A run before the turn, and from its sum a run after it (Run: plusTerms).
 use Rattle.product_real32.proofs.Words.{_-_, ap, _∙_, now, needs, plusTerms, term, K}
 use Rattle.product_real32.proofs.folded.add_turned.Statement.{statement}
 use Rattle.product_real32.proofs.folded.add_turned.Tie as tie

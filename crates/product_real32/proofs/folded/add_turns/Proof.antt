@@ -1,4 +1,4 @@
--- Each of the eight sums in its turn (slab: EightLaws).
+-- Each of the eight sums in its turn, the others as they were (EightLaws: part-next, part-end).
 use Rattle.product_real32.proofs.Words.{_+_, _-_, _∙_, arith, now, good-length, cell, Part, part-start, part-next, part-end, plusTerms, term, turnedSum, nearer, slab, K}
 use Rattle.product_real32.proofs.folded.add_turns.Statement.{statement}
 use Rattle.product_real32.proofs.folded.add_turns.Tie as tie

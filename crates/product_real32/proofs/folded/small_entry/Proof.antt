@@ -1,4 +1,4 @@
--- The sum, term by term.
+-- The sum so far, term by term, and the element settled with it (SumLaws: sum-next, sum-end; Rows: entry-put).
 use Rattle.product_real32.proofs.Words.{_≤_, _-_, _≡_, arith, now, needs, zero-literal, sum, sum-start, sum-next, sum-end, foldedTerm, entry-put, K, scaleBy, value}
 use Rattle.product_real32.proofs.folded.small_entry.Statement.{statement}
 use Rattle.product_real32.proofs.folded.small_entry.Tie as tie

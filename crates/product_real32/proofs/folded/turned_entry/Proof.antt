@@ -1,3 +1,4 @@
+-- The runs before and after the turn are the whole sum, and the element is settled with it (Sums: folded-sum; Rows: entry-put).
 use Rattle.product_real32.proofs.Words.{arith, now, needs, zero-literal, folded-sum, entry-put, spans, K, scaleBy, value}
 use Rattle.product_real32.proofs.folded.turned_entry.Statement.{statement}
 use Rattle.product_real32.proofs.folded.turned_entry.Tie as tie

@@ -1,4 +1,4 @@
--- Block after block is the row so far.
+-- Block after block is the row so far (LoopLaws: span-after, row-last).
 use Rattle.product_real32.proofs.Words.{row-begun, _≤_, _-_, _≡_, refl, _∙_, arith, length, everywhere, updateRow, row-last, span-after, planChange, ready-kept, K, scaleBy, value}
 use Rattle.product_real32.proofs.gemm.wide_row.Statement.{statement}
 use Rattle.product_real32.proofs.gemm.wide_row.Tie as tie

@@ -1,4 +1,4 @@
--- Each term goes into the eight sums of a column (Eights: column-sums-next).
+-- Each term goes into the eight sums of a column (Eights: column-sums-next, sums-end).
 use Rattle.product_real32.proofs.Words.{refl, _≤_, _+_, _-_, sym, arith, now, Eight, sum, transposed-accepted, term, sums-start, column-sums-next, sums-end, commutes, self-conjugate, K}
 use Rattle.product_real32.proofs.gemv.column_sums.Statement.{statement}
 use Rattle.product_real32.proofs.gemv.column_sums.Tie as tie

@@ -1,3 +1,4 @@
+-- A refused call leaves its slab; a passed one does the work of its side (Kernels: hemm-refused, hemm-done).
 use Rattle.product_real32.proofs.Words.{_∙_, ap, refl, needs, hemm-refused, hemm-runs, hemm-done, scale-by, K, scaleBy}
 use Rattle.product_real32.proofs.hemm.hemm.Statement.{statement}
 use Rattle.product_real32.proofs.hemm.hemm.Tie as tie

@@ -1,4 +1,4 @@
--- Each way runs the plan of A on the right.
+-- Each loop runs the plan of A on the right (Plans: rightPlan), which is the work of that side.
 use Rattle.product_real32.proofs.Words.{arith, needs}
 use Rattle.product_real32.proofs.hemm.hemm_right.Statement.{statement}
 use Rattle.product_real32.proofs.hemm.hemm_right.Tie as tie

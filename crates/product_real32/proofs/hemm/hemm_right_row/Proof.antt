@@ -1,4 +1,4 @@
--- Element after element is the row so far.
+-- Element after element of the row, each with a turn of its own (LoopLaws: put-next, row-last).
 use Rattle.product_real32.proofs.Words.{row-begun, _≤_, _-_, _≡_, refl, _∙_, arith, length, everywhere, updateRow, row-last, put-next, foldedChange, folded-kept, K, scaleBy, value}
 use Rattle.product_real32.proofs.hemm.hemm_right_row.Statement.{statement}
 use Rattle.product_real32.proofs.hemm.hemm_right_row.Tie as tie

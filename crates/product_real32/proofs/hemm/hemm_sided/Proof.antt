@@ -1,4 +1,4 @@
--- The side is matched.
+-- The side is matched, and the work is that of hemm_left or hemm_right (Plans: sidedWork).
 use Rattle.product_real32.proofs.Words.{needs}
 use Rattle.product_real32.proofs.hemm.hemm_sided.Statement.{statement}
 use Rattle.product_real32.proofs.hemm.hemm_sided.Tie as tie

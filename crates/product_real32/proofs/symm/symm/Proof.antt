@@ -1,3 +1,4 @@
+-- A refused call leaves its slab; a passed one does the work of its side (Kernels: symm-refused, symm-done).
 use Rattle.product_real32.proofs.Words.{_∙_, ap, refl, needs, symm-refused, symm-runs, symm-done, scale-by, K, scaleBy}
 use Rattle.product_real32.proofs.symm.symm.Statement.{statement}
 use Rattle.product_real32.proofs.symm.symm.Tie as tie

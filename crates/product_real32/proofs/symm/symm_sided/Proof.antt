@@ -1,4 +1,4 @@
--- The side is matched.
+-- The side is matched, and the work is that of symm_left or symm_right (Plans: sidedWork).
 use Rattle.product_real32.proofs.Words.{needs}
 use Rattle.product_real32.proofs.symm.symm_sided.Statement.{statement}
 use Rattle.product_real32.proofs.symm.symm_sided.Tie as tie

@@ -1,3 +1,4 @@
+-- From its first column in the triangle to its last, column after column (LoopLaws: span-next; Rows: span-last; Columns: row-columns).
 use Rattle.product_real32.proofs.Words.{_≤_, _-_, _≡_, refl, _∙_, arith, length, planChange, span, span-start, span-next, span-last, row-columns, ready-kept, K, scaleBy, value}
 use Rattle.product_real32.proofs.syrk.syrk_row.Statement.{statement}
 use Rattle.product_real32.proofs.syrk.syrk_row.Tie as tie

@@ -1,4 +1,4 @@
--- Each term goes into the eight sums, from places side by side (Eights).
+-- Each turn adds a term to each of the eight sums, from places side by side (Eights: beside-next, eight-end).
 use Rattle.product_real64.proofs.Words.{_≤_, _+_, _-_, refl, arith, now, good-length, cell, Eight, plusTerms, shown, inside, beside, term, eight-start, beside-next, eight-end, self-conjugate, K}
 use Rattle.product_real64.proofs.element.add_beside.Statement.{statement}
 use Rattle.product_real64.proofs.element.add_beside.Tie as tie

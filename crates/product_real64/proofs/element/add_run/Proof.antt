@@ -1,3 +1,4 @@
+-- The sum is the run so far; each turn adds one term (Sums: real-next, plus-end).
 use Rattle.product_real64.proofs.Words.{_≤_, _-_, _≡_, arith, now, plusTerms, term, plus-start, plus-end, real-next, self-conjugate, K, value}
 use Rattle.product_real64.proofs.element.add_run.Statement.{statement}
 use Rattle.product_real64.proofs.element.add_run.Tie as tie

@@ -1,4 +1,4 @@
--- Column after column of the block is settled (slab: span).
+-- Column after column of the block is settled (LoopLaws: span-next, span-end).
 use Rattle.product_real64.proofs.Words.{_≤_, _-_, _≡_, refl, _∙_, arith, length, span, span-start, span-next, span-end, accumulate, accepted-kept, K, scaleBy, value}
 use Rattle.product_real64.proofs.element.settle_block.Statement.{statement}
 use Rattle.product_real64.proofs.element.settle_block.Tie as tie

@@ -1,4 +1,4 @@
--- A term before the turn or after it.
+-- A term of the head before the turn, of the tail after it (Sums: before-turn, after-turn).
 use Rattle.product_real64.proofs.Words.{arith, now, before-turn, after-turn, self-conjugate, K}
 use Rattle.product_real64.proofs.folded.folded_term.Statement.{statement}
 use Rattle.product_real64.proofs.folded.folded_term.Tie as tie

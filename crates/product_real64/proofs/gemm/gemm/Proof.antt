@@ -1,3 +1,4 @@
+-- A refused call leaves its slab; a passed one does the plan's work (Kernels: gemm-refused, gemm-done).
 use Rattle.product_real64.proofs.Words.{_∙_, ap, refl, needs, gemm-refused, gemm-planned, gemm-runs, gemm-done, scale-by, K, scaleBy}
 use Rattle.product_real64.proofs.gemm.gemm.Statement.{statement}
 use Rattle.product_real64.proofs.gemm.gemm.Tie as tie

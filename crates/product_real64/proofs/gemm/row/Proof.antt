@@ -1,3 +1,4 @@
+-- Element after element of the row (LoopLaws: put-next, row-last).
 use Rattle.product_real64.proofs.Words.{row-begun, _≤_, _-_, _≡_, refl, _∙_, arith, length, everywhere, updateRow, row-last, put-next, planChange, ready-kept, K, scaleBy, value}
 use Rattle.product_real64.proofs.gemm.row.Statement.{statement}
 use Rattle.product_real64.proofs.gemm.row.Tie as tie

@@ -1,3 +1,4 @@
+-- A row of the target is one element, and row after row is the fold (LoopLaws: column-next, rows-last).
 use Rattle.product_real64.proofs.Words.{rows-begun, _≤_, _-_, _≡_, refl, _∙_, arith, length, everywhere, updateRows, planChange, rows-last, column-next, ready-kept, K, scaleBy, value}
 use Rattle.product_real64.proofs.gemv.column_plain.Statement.{statement}
 use Rattle.product_real64.proofs.gemv.column_plain.Tie as tie

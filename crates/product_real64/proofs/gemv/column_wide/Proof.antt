@@ -1,4 +1,4 @@
--- Block after block is the column so far (Eights: column-settled).
+-- Block after block is the column so far (Eights: column-settled; LoopLaws: rows-last).
 use Rattle.product_real64.proofs.Words.{rows-begun, _≤_, _+_, _-_, _≡_, refl, _∙_, arith, length, now, everywhere, updateRows, rows-last, product, planChange, ready-kept, column-settled, K, scaleBy, value}
 use Rattle.product_real64.proofs.gemv.column_wide.Statement.{statement}
 use Rattle.product_real64.proofs.gemv.column_wide.Tie as tie

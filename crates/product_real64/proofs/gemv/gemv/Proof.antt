@@ -1,3 +1,4 @@
+-- A refused call leaves its slab; a passed one does the plan's work (Kernels: gemv-refused, gemv-done).
 use Rattle.product_real64.proofs.Words.{_∙_, ap, refl, needs, gemv-refused, gemv-vectors, gemv-planned, gemv-runs, gemv-done, scale-by, K, scaleBy}
 use Rattle.product_real64.proofs.gemv.gemv.Statement.{statement}
 use Rattle.product_real64.proofs.gemv.gemv.Tie as tie

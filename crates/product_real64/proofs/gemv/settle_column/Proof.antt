@@ -1,4 +1,4 @@
--- Row after row of the block is settled (slab: spanRows).
+-- Row after row of the block is settled (LoopLaws: rows-span-next, rows-span-end).
 use Rattle.product_real64.proofs.Words.{_≤_, _-_, _≡_, refl, _∙_, arith, length, spanRows, rows-span-start, rows-span-next, rows-span-end, accumulate, accepted-kept, K, scaleBy, value}
 use Rattle.product_real64.proofs.gemv.settle_column.Statement.{statement}
 use Rattle.product_real64.proofs.gemv.settle_column.Tie as tie

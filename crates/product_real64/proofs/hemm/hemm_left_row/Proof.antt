@@ -1,3 +1,4 @@
+-- Element after element of the row, all turning at the same term (LoopLaws: put-next, row-last).
 use Rattle.product_real64.proofs.Words.{row-begun, _≤_, _-_, _≡_, refl, _∙_, arith, length, everywhere, updateRow, row-last, put-next, foldedChange, folded-kept, K, scaleBy, value}
 use Rattle.product_real64.proofs.hemm.hemm_left_row.Statement.{statement}
 use Rattle.product_real64.proofs.hemm.hemm_left_row.Tie as tie

@@ -1,3 +1,4 @@
+-- Row after row of the fold (LoopLaws: rows-next, rows-last).
 use Rattle.product_real64.proofs.Words.{rows-begun, _≤_, _-_, _≡_, refl, _∙_, arith, length, everywhere, updateRows, rows-next, rows-last, foldedChange, folded-kept, K, scaleBy, value}
 use Rattle.product_real64.proofs.hemm.hemm_left_small.Statement.{statement}
 use Rattle.product_real64.proofs.hemm.hemm_left_small.Tie as tie

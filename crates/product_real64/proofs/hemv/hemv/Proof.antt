@@ -1,3 +1,4 @@
+-- A refused call leaves its slab; a passed one does the plan's work (Kernels: hemv-refused, hemv-done).
 use Rattle.product_real64.proofs.Words.{_∙_, ap, refl, needs, hemv-refused, hemv-vectors, hemv-runs, hemv-done, scale-by, K, scaleBy}
 use Rattle.product_real64.proofs.hemv.hemv.Statement.{statement}
 use Rattle.product_real64.proofs.hemv.hemv.Tie as tie

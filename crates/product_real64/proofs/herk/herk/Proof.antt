@@ -1,3 +1,4 @@
+-- A refused call leaves its slab; a passed one does the plan's work (Kernels: herk-refused, herk-done).
 use Rattle.product_real64.proofs.Words.{_∙_, ap, refl, needs, herk-refused, herk-runs, herk-done, scale-by, K, scaleBy}
 use Rattle.product_real64.proofs.herk.herk.Statement.{statement}
 use Rattle.product_real64.proofs.herk.herk.Tie as tie

@@ -1,4 +1,4 @@
--- Each way runs the plan of A on the left.
+-- Each loop runs the plan of A on the left (Plans: leftPlan), which is the work of that side.
 use Rattle.product_real64.proofs.Words.{arith, needs}
 use Rattle.product_real64.proofs.symm.symm_left.Statement.{statement}
 use Rattle.product_real64.proofs.symm.symm_left.Tie as tie

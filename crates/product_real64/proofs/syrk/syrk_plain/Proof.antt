@@ -1,3 +1,4 @@
+-- Row after row of the fold (LoopLaws: rows-next, rows-last).
 use Rattle.product_real64.proofs.Words.{rows-begun, _≤_, _-_, _≡_, refl, _∙_, arith, length, inTriangle, updateRows, rows-next, rows-last, planChange, ready-kept, K, scaleBy, value}
 use Rattle.product_real64.proofs.syrk.syrk_plain.Statement.{statement}
 use Rattle.product_real64.proofs.syrk.syrk_plain.Tie as tie

@@ -1,4 +1,4 @@
--- Block after block is the row so far, from its first column on.
+-- From its first column in the triangle to its last, block after block (LoopLaws: span-on; Rows: span-last).
 use Rattle.product_real64.proofs.Words.{_≤_, _-_, _≡_, refl, _∙_, arith, length, span, span-start, span-on, planChange, span-last, ready-kept, K, scaleBy, value}
 use Rattle.slab.proofs.Columns.{row-columns}
 use Rattle.product_real64.proofs.triangle.triangle_wide_row.Statement.{statement}

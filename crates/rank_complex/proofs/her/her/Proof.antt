@@ -1,3 +1,4 @@
+-- A refused call leaves its slab; a passed one does the update (Kernels: her-refused, her-done).
 use Rattle.rank_complex.proofs.Words.{needs, her-vector, her-runs, her-done, her-refused, K}
 use Rattle.rank_complex.proofs.her.her.Statement.{statement}
 use Rattle.rank_complex.proofs.her.her.Tie as tie

@@ -1,3 +1,4 @@
+-- Column after column in the triangle, with alpha·xi weighed once (LoopLaws: span-next; Rows: span-last; Laws: her-same).
 use Rattle.rank_complex.proofs.Words.{_≤_, _-_, _≡_, refl, sym, ap, _∙_, arith, length, now, elem, herChange, addOne, column-shows, one-shows, span, span-start, span-next, span-last, row-lt, begins, column-lt, her-same, K, value, counted}
 use Rattle.rank_complex.proofs.her.her_row.Statement.{statement}
 use Rattle.rank_complex.proofs.her.her_row.Tie as tie

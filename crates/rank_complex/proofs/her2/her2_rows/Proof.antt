@@ -1,3 +1,4 @@
+-- Row after row of the fold (LoopLaws: rows-next, rows-last).
 use Rattle.rank_complex.proofs.Words.{rows-begun, _≤_, _-_, _≡_, refl, _∙_, arith, length, inTriangle, elem, updateRows, rows-next, rows-last, her2Change, two-kept, K, value, counted}
 use Rattle.rank_complex.proofs.her2.her2_rows.Statement.{statement}
 use Rattle.rank_complex.proofs.her2.her2_rows.Tie as tie

@@ -1,3 +1,4 @@
+-- The element is settled with the weighed sum of its pairs (Eights: settled).
 use Rattle.rank_complex.proofs.Words.{now, needs, settled, K, scaleBy}
 use Rattle.rank_complex.proofs.her2k.her2k_entry.Statement.{statement}
 use Rattle.rank_complex.proofs.her2k.her2k_entry.Tie as tie

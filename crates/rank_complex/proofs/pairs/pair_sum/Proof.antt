@@ -1,3 +1,4 @@
+-- The sum is that of the pairs so far; each turn adds a pair (SumLaws: pair-next, pair-end).
 use Rattle.rank_complex.proofs.Words.{_≤_, _-_, _≡_, sym, _∙_, arith, zero-literal, pair-start, pair-next, pair-end, pairsAt, K, value}
 use Rattle.rank_complex.proofs.pairs.pair_sum.Statement.{statement}
 use Rattle.rank_complex.proofs.pairs.pair_sum.Tie as tie

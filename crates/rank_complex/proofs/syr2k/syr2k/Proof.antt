@@ -1,3 +1,4 @@
+-- A refused call leaves its slab; a passed one does the plan's update (Kernels: syr2k-refused, syr2k-done).
 use Rattle.rank_complex.proofs.Words.{ap, _∙_, needs, syr2k-runs, syr2k-done, syr2k-refused, scale-by, K, scaleBy}
 use Rattle.rank_complex.proofs.syr2k.syr2k.Statement.{statement}
 use Rattle.rank_complex.proofs.syr2k.syr2k.Tie as tie

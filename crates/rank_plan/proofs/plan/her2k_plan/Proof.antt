@@ -1,3 +1,4 @@
+-- The paired plan with her's readings (Plan: her2kPlan), from the contracts of paired_plan and her_readings.
 use Rattle.rank_plan.proofs.plan.her2k_plan.Statement.{statement}
 use Rattle.rank_plan.proofs.plan.her2k_plan.Tie as tie
 

@@ -1,3 +1,4 @@
+-- Trans is matched: which factor is read turned and conjugated (Plan: herReadings).
 use Rattle.rank_plan.proofs.Words.{needs}
 use Rattle.rank_plan.proofs.plan.her_readings.Statement.{statement}
 use Rattle.rank_plan.proofs.plan.her_readings.Tie as tie

@@ -1,3 +1,4 @@
+-- The four views, whether they conjugate, and the terms are the definition's (Plan: pairedPlan), from op_view, conjugates and op_cols.
 use Rattle.rank_plan.proofs.plan.paired_plan.Statement.{statement}
 use Rattle.rank_plan.proofs.plan.paired_plan.Tie as tie
 

@@ -1,3 +1,4 @@
+-- The paired plan with syr's readings (Plan: syr2kPlan), from the contracts of paired_plan and syr_readings.
 use Rattle.rank_plan.proofs.plan.syr2k_plan.Statement.{statement}
 use Rattle.rank_plan.proofs.plan.syr2k_plan.Tie as tie
 

@@ -1,3 +1,4 @@
+-- Trans is matched: which factor is read turned (Plan: syrReadings).
 use Rattle.rank_plan.proofs.Words.{needs}
 use Rattle.rank_plan.proofs.plan.syr_readings.Statement.{statement}
 use Rattle.rank_plan.proofs.plan.syr_readings.Tie as tie

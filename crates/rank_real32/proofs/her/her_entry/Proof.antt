@@ -1,3 +1,4 @@
+-- What is put at the element's place is its old number plus one product (Laws: more, put-replaced).
 use Rattle.rank_real32.proofs.Words.{refl, ap, _∙_, arith, now, needs, elem, shown, inside, addOne, put-replaced, more, K, value}
 use Rattle.rank_real32.proofs.her.her_entry.Statement.{statement}
 use Rattle.rank_real32.proofs.her.her_entry.Tie as tie

@@ -1,3 +1,4 @@
+-- What is put at the element's place is its old number plus two products in turn (Laws: more, twice, put-replaced).
 use Rattle.rank_real32.proofs.Words.{refl, ap, _∙_, arith, now, needs, elem, shown, inside, addTwo, put-replaced, more, twice, K, value}
 use Rattle.rank_real32.proofs.her2.her2_entry.Statement.{statement}
 use Rattle.rank_real32.proofs.her2.her2_entry.Tie as tie

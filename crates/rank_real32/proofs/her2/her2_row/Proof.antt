@@ -1,3 +1,4 @@
+-- Column after column in the triangle, with both weights taken once (LoopLaws: span-next; Rows: span-last; Laws: her2-same).
 use Rattle.rank_real32.proofs.Words.{_≤_, _-_, _≡_, refl, ap, _∙_, arith, length, now, elem, her2Change, addTwo, column-shows, two-shows, span, span-start, span-next, span-last, row-lt, begins, column-lt, her2-same, K, value, counted}
 use Rattle.rank_real32.proofs.her2.her2_row.Statement.{statement}
 use Rattle.rank_real32.proofs.her2.her2_row.Tie as tie

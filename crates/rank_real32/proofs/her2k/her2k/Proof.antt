@@ -1,3 +1,4 @@
+-- A refused call leaves its slab; a passed one does the plan's update (Kernels: her2k-refused, her2k-done).
 use Rattle.rank_real32.proofs.Words.{ap, _∙_, needs, her2k-runs, her2k-done, her2k-refused, scale-by-real, K, scaleBy}
 use Rattle.rank_real32.proofs.her2k.her2k.Statement.{statement}
 use Rattle.rank_real32.proofs.her2k.her2k.Tie as tie

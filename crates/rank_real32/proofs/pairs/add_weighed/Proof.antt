@@ -1,3 +1,4 @@
+-- One weighed product is added to the sum, then the other (Laws: more, twice), of factors that the plan reads (Inside).
 use Rattle.rank_real32.proofs.Words.{ap, _∙_, left-a-shows, right-b-shows, left-b-shows, right-a-shows, more, twice, K, value}
 use Rattle.rank_real32.proofs.pairs.add_weighed.Statement.{statement}
 use Rattle.rank_real32.proofs.pairs.add_weighed.Tie as tie

@@ -1,3 +1,4 @@
+-- What is put at the element's place is its scaled old number plus the one given (Laws: put-replaced).
 use Rattle.rank_real32.proofs.Words.{ap, _∙_, arith, now, needs, shown, inside, put-replaced, K, scaleBy, value}
 use Rattle.rank_real32.proofs.pairs.settle.Statement.{statement}
 use Rattle.rank_real32.proofs.pairs.settle.Tie as tie

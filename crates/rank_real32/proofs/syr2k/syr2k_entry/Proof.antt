@@ -1,3 +1,4 @@
+-- The element is settled with alpha times the sum of its pairs (Eights: settled).
 use Rattle.rank_real32.proofs.Words.{ap, _∙_, now, needs, settled, K, scaleBy, value}
 use Rattle.rank_real32.proofs.syr2k.syr2k_entry.Statement.{statement}
 use Rattle.rank_real32.proofs.syr2k.syr2k_entry.Tie as tie

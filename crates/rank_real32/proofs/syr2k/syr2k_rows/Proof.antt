@@ -1,3 +1,4 @@
+-- Row after row of the fold (LoopLaws: rows-next, rows-last).
 use Rattle.rank_real32.proofs.Words.{rows-begun, _≤_, _-_, _≡_, refl, _∙_, arith, length, inTriangle, updateRows, rows-next, rows-last, syr2kChange, paired-kept, K, scaleBy, value, counted}
 use Rattle.rank_real32.proofs.syr2k.syr2k_rows.Statement.{statement}
 use Rattle.rank_real32.proofs.syr2k.syr2k_rows.Tie as tie

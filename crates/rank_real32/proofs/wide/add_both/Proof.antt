@@ -1,3 +1,4 @@
+-- Each of the eight sums takes one product, then the other (Eights: two-more).
 use Rattle.rank_real32.proofs.Words.{needs, two-more, K}
 use Rattle.rank_real32.proofs.wide.add_both.Statement.{statement}
 use Rattle.rank_real32.proofs.wide.add_both.Tie as tie

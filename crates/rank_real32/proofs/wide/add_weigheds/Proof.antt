@@ -1,3 +1,4 @@
+-- What each of the eight sums takes is the plan's weighed pair at p (Eights: as-planned).
 use Rattle.rank_real32.proofs.Words.{ap, _∙_, now, left-a-shows, right-b-shows, left-b-shows, right-a-shows, as-planned, self-conjugate, K, value}
 use Rattle.rank_real32.proofs.wide.add_weigheds.Statement.{statement}
 use Rattle.rank_real32.proofs.wide.add_weigheds.Tie as tie

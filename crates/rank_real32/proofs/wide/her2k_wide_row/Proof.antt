@@ -1,3 +1,4 @@
+-- Block after block of the columns in the triangle (Eights: next-block; LoopLaws: span-on; Rows: span-last).
 use Rattle.rank_real32.proofs.Words.{_≤_, _-_, _≡_, refl, _∙_, arith, length, now, her2kChange, span, span-start, span-last, row-lt, begins, span-on, block-asks, next-block, K, scaleBy, value}
 use Rattle.rank_real32.proofs.wide.her2k_wide_row.Statement.{statement}
 use Rattle.rank_real32.proofs.wide.her2k_wide_row.Tie as tie

@@ -1,3 +1,4 @@
+-- The eight sums are those of the pairs so far; each turn adds a pair to each (Eights: pairs-next, pairs-end).
 use Rattle.rank_real32.proofs.Words.{_+_, _≤_, _-_, arith, Eight, pairsAt, pairs-start, pairs-next, pairs-end, K}
 use Rattle.rank_real32.proofs.wide.pair_sums.Statement.{statement}
 use Rattle.rank_real32.proofs.wide.pair_sums.Tie as tie

@@ -1,3 +1,4 @@
+-- Row after row of the fold (LoopLaws: rows-next, rows-last).
 use Rattle.rank_real64.proofs.Words.{rows-begun, _≤_, _-_, _≡_, refl, _∙_, arith, length, inTriangle, elem, updateRows, rows-next, rows-last, herChange, one-kept, K, counted}
 use Rattle.rank_real64.proofs.her.her_rows.Statement.{statement}
 use Rattle.rank_real64.proofs.her.her_rows.Tie as tie

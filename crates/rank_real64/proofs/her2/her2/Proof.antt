@@ -1,3 +1,4 @@
+-- A refused call leaves its slab; a passed one does the update (Kernels: her2-refused, her2-done).
 use Rattle.rank_real64.proofs.Words.{needs, her2-vectors, her2-runs, her2-done, her2-refused, K}
 use Rattle.rank_real64.proofs.her2.her2.Statement.{statement}
 use Rattle.rank_real64.proofs.her2.her2.Tie as tie

@@ -1,3 +1,4 @@
+-- One product is added to the sum, then the other (Laws: more, twice), of factors that the plan reads (Inside).
 use Rattle.rank_real64.proofs.Words.{left-a-shows, right-b-shows, left-b-shows, right-a-shows, more, twice, K}
 use Rattle.rank_real64.proofs.pairs.add_pair.Statement.{statement}
 use Rattle.rank_real64.proofs.pairs.add_pair.Tie as tie

@@ -1,3 +1,4 @@
+-- Column after column in the triangle (LoopLaws: span-next; Rows: span-last).
 use Rattle.rank_real64.proofs.Words.{_≤_, _-_, _≡_, refl, _∙_, arith, length, now, syr2kChange, paired-shows, span, span-start, span-next, span-last, row-lt, begins, column-lt, K, scaleBy, value, counted}
 use Rattle.rank_real64.proofs.syr2k.syr2k_row.Statement.{statement}
 use Rattle.rank_real64.proofs.syr2k.syr2k_row.Tie as tie

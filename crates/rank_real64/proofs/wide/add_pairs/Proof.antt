@@ -1,3 +1,4 @@
+-- What each of the eight sums takes is the plan's pair at p (Eights: as-planned).
 use Rattle.rank_real64.proofs.Words.{now, left-a-shows, right-b-shows, left-b-shows, right-a-shows, as-planned, self-conjugate, K}
 use Rattle.rank_real64.proofs.wide.add_pairs.Statement.{statement}
 use Rattle.rank_real64.proofs.wide.add_pairs.Tie as tie

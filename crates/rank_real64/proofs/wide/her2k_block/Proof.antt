@@ -1,3 +1,4 @@
+-- Column after column is settled from the eight sums (LoopLaws: span-next; Eights: sum-of, columns-end).
 use Rattle.rank_real64.proofs.Words.{_≤_, _-_, _≡_, refl, ap, _∙_, arith, length, now, span, weighedsAt, her2kChange, sum-of, columns-end, block-sums, block-shows, K, scaleBy, value}
 use Rattle.slab.proofs.LoopLaws.{span-start}
 use Rattle.slab.proofs.LoopLaws.{span-next}

@@ -1,4 +1,4 @@
--- From column j on where w are left, else the last w.
+-- From column j on where w are left, else the last w: j is among them, and they end within n, by arithmetic.
 use Rattle.slab.proofs.Words.{arith}
 use Rattle.slab.proofs.block.block_start.Statement.{statement}
 use Rattle.slab.proofs.block.block_start.Tie as tie

@@ -1,4 +1,4 @@
--- Each sum in its turn (EightLaws).
+-- Each sum in its turn, the others as they were (EightLaws: part-next, part-end).
 use Rattle.slab.proofs.Words.{ℕ, _+_, _-_, _/_, ap, _∙_, arith, binary64, good-length, eFloat, complex, complex-slab, elemConj, PartOf, part-start, part-next, part-end}
 use Rattle.slab.proofs.complex.add_four.Statement.{statement}
 use Rattle.slab.proofs.complex.add_four.Tie as tie

@@ -1,3 +1,4 @@
+-- The element of the view is read at its place, which is inside the slab (Shown: shown, inside).
 use Rattle.slab.proofs.Words.{arith, shown, inside}
 use Rattle.slab.proofs.complex.elem.Statement.{statement}
 use Rattle.slab.proofs.complex.elem.Tie as tie

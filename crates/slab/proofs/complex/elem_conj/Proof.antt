@@ -1,4 +1,4 @@
--- The flag is matched.
+-- The flag is matched: the element's conjugate, or the element as it is (Run: elemConj).
 use Rattle.slab.proofs.Words.{_∙_, ap, complex}
 use Rattle.slab.proofs.complex.elem_conj.Statement.{statement}
 use Rattle.slab.proofs.complex.elem_conj.Tie as tie

@@ -1,4 +1,4 @@
--- Each sum in its turn (EightLaws).
+-- Each sum in its turn, the others as they were (EightLaws: part-next, part-end).
 use Rattle.slab.proofs.Words.{_+_, _-_, ap, _∙_, arith, binary32, good-length, eFloat, real32, real-slab, elem, Part, part-start, part-next, part-end}
 use Rattle.slab.proofs.real32.plus_eight.Statement.{statement}
 use Rattle.slab.proofs.real32.plus_eight.Tie as tie

@@ -1,4 +1,4 @@
--- Eight times the literal 0.0, which is ZERO.
+-- Eight times the literal 0.0, which is +0 (Literals: zero-literal; EightLaws: eight-of).
 use Rattle.slab.proofs.Words.{binary64, real64, zero-literal, eight-of, eight-same}
 use Rattle.slab.proofs.real64.zeros.Statement.{statement}
 use Rattle.slab.proofs.real64.zeros.Tie as tie

@@ -1,3 +1,4 @@
+-- The own term and the run behind it, or the run before it and the own term (LineSums: sum-behind, sum-before).
 use Rattle.triangle_complex.proofs.Words.{now, arith, zero-literal, run-spans, sum-behind, sum-before, needs, K}
 use Rattle.triangle_complex.proofs.line.line_sum.Statement.{statement}
 use Rattle.triangle_complex.proofs.line.line_sum.Tie as tie

@@ -1,3 +1,4 @@
+-- Line after line of B: a walk of steps (WalkLaws: walk-next, walk-end).
 use Rattle.triangle_complex.proofs.Words.{_≤_, _-_, ℕ, _/_, _≡_, refl, _∙_, ap, now, arith, length, System, walk, timesIf, multiplyLine, multiplyAll, walk-start, walk-next, walk-end, ready-made, K}
 use Rattle.triangle_complex.proofs.line.multiply.Statement.{statement}
 use Rattle.triangle_complex.proofs.line.multiply.Tie as tie

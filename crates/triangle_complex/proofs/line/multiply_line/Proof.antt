@@ -1,3 +1,4 @@
+-- Element after element of the line: a walk of steps (WalkLaws: walk-next, walk-end).
 use Rattle.triangle_complex.proofs.Words.{ℕ, _≤_, _-_, _/_, _≡_, refl, ap, _∙_, arith, length, timesIf, multiplyLine, ready-for, walk-start, walk-next, walk-end, K}
 use Rattle.triangle_complex.proofs.line.multiply_line.Statement.{statement}
 use Rattle.triangle_complex.proofs.line.multiply_line.Tie as tie

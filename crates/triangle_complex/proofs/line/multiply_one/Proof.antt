@@ -1,3 +1,4 @@
+-- What is put at the element's place is its line's sum, times alpha where asked (Multiplies: multiply-one-is).
 use Rattle.triangle_complex.proofs.Words.{refl, arith, shown, inside, unknown-shown, multiply-one-is, needs, K}
 use Rattle.triangle_complex.proofs.line.multiply_one.Statement.{statement}
 use Rattle.triangle_complex.proofs.line.multiply_one.Tie as tie

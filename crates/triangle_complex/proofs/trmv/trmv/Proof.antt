@@ -1,3 +1,4 @@
+-- A refused call leaves its slab; a passed one multiplies x in its place (ProductKernels: trmv-refused, trmv-done).
 use Rattle.triangle_complex.proofs.Words.{refl, vector-passed, vector-runs, trmv-refused, trmv-done, needs, commutes, swaps, laws, K}
 use Rattle.triangle_complex.proofs.trmv.trmv.Statement.{statement}
 use Rattle.triangle_complex.proofs.trmv.trmv.Tie as tie

@@ -1,3 +1,4 @@
+-- Row after row of the fold (LoopLaws: rows-next, rows-last).
 use Rattle.triangle_complex.proofs.Words.{rows-begun, rows-next, rows-last, updateRows, everywhere, needs, length, _≤_, _-_, ℕ, _/_, _≡_, refl, _∙_, ap, row-in, arith, K}
 use Rattle.triangle_complex.proofs.trsm.scale.Statement.{statement}
 use Rattle.triangle_complex.proofs.trsm.scale.Tie as tie

@@ -1,3 +1,4 @@
+-- Element after element of the row (LoopLaws: row-next, row-last).
 use Rattle.triangle_complex.proofs.Words.{row-begun, row-next, row-last, updateRow, everywhere, in-row, needs, length, _≤_, _-_, ℕ, _/_, _≡_, refl, _∙_, ap, arith, K}
 use Rattle.triangle_complex.proofs.trsm.scale_row.Statement.{statement}
 use Rattle.triangle_complex.proofs.trsm.scale_row.Tie as tie

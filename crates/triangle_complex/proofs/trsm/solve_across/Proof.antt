@@ -1,3 +1,4 @@
+-- Line after line of one unknown: a walk of steps (WalkLaws: walk-next, walk-end).
 use Rattle.triangle_complex.proofs.Words.{_≤_, _-_, ℕ, _/_, _≡_, refl, _∙_, ap, arith, length, walk, timesIf, solveUnknown, walk-start, walk-next, walk-end, ready-for, K}
 use Rattle.triangle_complex.proofs.trsm.solve_across.Statement.{statement}
 use Rattle.triangle_complex.proofs.trsm.solve_across.Tie as tie

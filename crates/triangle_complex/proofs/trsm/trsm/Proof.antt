@@ -1,3 +1,4 @@
+-- A refused call leaves its slab; a passed one gives what its side's solve does (SolveKernels: trsm-refused, trsm-done).
 use Rattle.triangle_complex.proofs.Words.{matrix-runs, trsm-refused, trsm-done, needs, K}
 use Rattle.triangle_complex.proofs.trsm.trsm.Statement.{statement}
 use Rattle.triangle_complex.proofs.trsm.trsm.Tie as tie

@@ -1,3 +1,4 @@
+-- A refused call leaves its slab; a passed one gives its system's solve (SolveKernels: trsv-refused, trsv-done).
 use Rattle.triangle_complex.proofs.Words.{refl, Left, ready-made, one-line, solved-gives, vector-passed, vector-runs, trsv-refused, trsv-done, needs, commutes, swaps, laws, K}
 use Rattle.triangle_complex.proofs.trsv.trsv.Statement.{statement}
 use Rattle.triangle_complex.proofs.trsv.trsv.Tie as tie

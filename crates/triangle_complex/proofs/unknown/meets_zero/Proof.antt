@@ -1,3 +1,4 @@
+-- The pivot tested is that of the unknown in its order (Solves: meets-is).
 use Rattle.triangle_complex.proofs.Words.{ℕ, _<_, sym, subst, now, pivot-shown, meets-is, needs, K}
 use Rattle.triangle_complex.proofs.unknown.meets_zero.Statement.{statement}
 use Rattle.triangle_complex.proofs.unknown.meets_zero.Tie as tie

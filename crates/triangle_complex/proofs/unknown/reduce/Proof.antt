@@ -1,3 +1,4 @@
+-- The rest is x less the run so far; each turn takes off one product (Systems: weighed; Runs: minus-on, minus-done).
 use Rattle.triangle_complex.proofs.Words.{_≤_, _-_, _≡_, refl, arith, elem, elemConj, minusTerms, weighed, run-end, span-left, span-right, minus-first, minus-on, minus-done, K}
 use Rattle.triangle_complex.proofs.unknown.reduce.Statement.{statement}
 use Rattle.triangle_complex.proofs.unknown.reduce.Tie as tie

@@ -1,4 +1,4 @@
--- Each number in its turn (EightLaws).
+-- Each element is read in its turn (EightLaws: part-next, part-end).
 use Rattle.triangle_real32.proofs.Words.{_+_, _-_, arith, elem, Part, part-start, part-next, part-end, slab, K}
 use Rattle.triangle_real32.proofs.eight.eight_at.Statement.{statement}
 use Rattle.triangle_real32.proofs.eight.eight_at.Tie as tie

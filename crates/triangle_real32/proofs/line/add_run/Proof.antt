@@ -1,3 +1,4 @@
+-- The sum is the run so far; each turn adds one product (Systems: weighed; Runs: plus-on, plus-done).
 use Rattle.triangle_real32.proofs.Words.{_≤_, _-_, _≡_, refl, arith, elem, elemConj, plusTerms, weighed, run-end, span-left, span-right, plus-first, plus-on, plus-done, K}
 use Rattle.triangle_real32.proofs.line.add_run.Statement.{statement}
 use Rattle.triangle_real32.proofs.line.add_run.Tie as tie

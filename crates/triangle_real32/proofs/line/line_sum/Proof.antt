@@ -1,3 +1,4 @@
+-- The own term and the run behind it, or the run before it and the own term (LineSums: line-behind, line-before).
 use Rattle.triangle_real32.proofs.Words.{_-_, _≡_, arith, zero-literal, line-behind, line-before, needs, K}
 use Rattle.triangle_real32.proofs.line.line_sum.Statement.{statement}
 use Rattle.triangle_real32.proofs.line.line_sum.Tie as tie

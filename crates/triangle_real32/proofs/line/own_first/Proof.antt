@@ -1,3 +1,4 @@
+-- The own term, then the run behind it, from a zero sum (LineSums: own-first-is).
 use Rattle.triangle_real32.proofs.Words.{now, arith, zero-literal, run-spans, own-first-is, needs, K}
 use Rattle.triangle_real32.proofs.line.own_first.Statement.{statement}
 use Rattle.triangle_real32.proofs.line.own_first.Tie as tie

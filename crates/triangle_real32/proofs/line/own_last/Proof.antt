@@ -1,3 +1,4 @@
+-- The run before the own term, then that term (LineSums: own-last-is).
 use Rattle.triangle_real32.proofs.Words.{now, arith, run-spans, own-last-is, needs, K}
 use Rattle.triangle_real32.proofs.line.own_last.Statement.{statement}
 use Rattle.triangle_real32.proofs.line.own_last.Tie as tie

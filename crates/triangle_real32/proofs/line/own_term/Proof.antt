@@ -1,3 +1,4 @@
+-- The diagonal's weight times the element is the own term (Systems: weighed).
 use Rattle.triangle_real32.proofs.Words.{weighed, needs, K}
 use Rattle.triangle_real32.proofs.line.own_term.Statement.{statement}
 use Rattle.triangle_real32.proofs.line.own_term.Tie as tie

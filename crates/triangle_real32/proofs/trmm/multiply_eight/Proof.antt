@@ -1,3 +1,4 @@
+-- Eight elements worked out before any is written are multiplied one by one (Lines: multiply-eight-is).
 use Rattle.triangle_real32.proofs.Words.{refl, now, arith, unknown-shown, multiply-eight-is, needs, laws, K, value}
 use Rattle.triangle_real32.proofs.trmm.multiply_eight.Statement.{statement}
 use Rattle.triangle_real32.proofs.trmm.multiply_eight.Tie as tie

@@ -1,3 +1,4 @@
+-- Element after element of the line: a walk of steps (WalkLaws: walk-next, walk-end).
 use Rattle.triangle_real32.proofs.Words.{_≤_, _-_, _≡_, refl, _∙_, arith, length, multiplyLine, ready-for, walk-start, walk-next, walk-end, K, value}
 use Rattle.triangle_real32.proofs.trmm.multiply_line.Statement.{statement}
 use Rattle.triangle_real32.proofs.trmm.multiply_line.Tie as tie

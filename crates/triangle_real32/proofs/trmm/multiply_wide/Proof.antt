@@ -1,3 +1,4 @@
+-- Element after element, each in every line, is line after line (WalkLaws: walk-next; Lines: element-after-element).
 use Rattle.triangle_real32.proofs.Words.{_≤_, _-_, _≡_, refl, _∙_, arith, length, walk, multiplyAcross, element-after-element, ready-kept, walk-start, walk-next, walk-end, swaps, laws, K, value}
 use Rattle.triangle_real32.proofs.trmm.multiply_wide.Statement.{statement}
 use Rattle.triangle_real32.proofs.trmm.multiply_wide.Tie as tie

@@ -1,3 +1,4 @@
+-- A refused call leaves its slab; a passed one multiplies B in its place (ProductKernels: trmm-refused, trmm-done).
 use Rattle.triangle_real32.proofs.Words.{refl, matrix-runs, trmm-refused, trmm-done, ready-made, needs, commutes, swaps, laws, K}
 use Rattle.triangle_real32.proofs.trmm.trmm.Statement.{statement}
 use Rattle.triangle_real32.proofs.trmm.trmm.Tie as tie

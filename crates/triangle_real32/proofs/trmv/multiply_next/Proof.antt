@@ -1,3 +1,4 @@
+-- What is put at the element's place is its row's sum (Multiplies: multiply-one-is).
 use Rattle.triangle_real32.proofs.Words.{refl, arith, shown, inside, unknown-shown, multiply-one-is, needs, K}
 use Rattle.triangle_real32.proofs.trmv.multiply_next.Statement.{statement}
 use Rattle.triangle_real32.proofs.trmv.multiply_next.Tie as tie

@@ -1,4 +1,4 @@
--- Each row in its turn (EightLaws).
+-- Each row in its turn is its own term and the run behind it (EightLaws: part-next, part-end).
 use Rattle.triangle_real32.proofs.Words.{_+_, _-_, arith, Part, part-start, part-next, part-end, ownFirst, row-ready, slab, K}
 use Rattle.triangle_real32.proofs.trmv.own_first_eight.Statement.{statement}
 use Rattle.triangle_real32.proofs.trmv.own_first_eight.Tie as tie

@@ -1,4 +1,4 @@
--- Each row in its turn (EightLaws).
+-- Each row in its turn takes the run before its own term, and that term (EightLaws: part-next, part-end).
 use Rattle.triangle_real32.proofs.Words.{_+_, _-_, ap, _∙_, now, arith, good-length, cell, Part, part-start, part-next, part-end, ownLast, row-ready, slab, K}
 use Rattle.triangle_real32.proofs.trmv.own_last_eight.Statement.{statement}
 use Rattle.triangle_real32.proofs.trmv.own_last_eight.Tie as tie

@@ -1,3 +1,4 @@
+-- Number after number is put into its row: a walk of steps (WalkLaws: walk-next, walk-end).
 use Rattle.triangle_real32.proofs.Words.{_≤_, _-_, _≡_, refl, _∙_, arith, length, shown, inside, putRows, walk-start, walk-next, walk-end, in-row, K}
 use Rattle.triangle_real32.proofs.trmv.put_rows.Statement.{statement}
 use Rattle.triangle_real32.proofs.trmv.put_rows.Tie as tie

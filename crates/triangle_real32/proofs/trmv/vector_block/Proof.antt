@@ -1,3 +1,4 @@
+-- Eight elements worked out before any is written are multiplied one by one (Rows: rows-eight-is).
 use Rattle.triangle_real32.proofs.Words.{refl, now, arith, unknown-shown, rows-eight-is, needs, laws, K}
 use Rattle.triangle_real32.proofs.trmv.vector_block.Statement.{statement}
 use Rattle.triangle_real32.proofs.trmv.vector_block.Tie as tie

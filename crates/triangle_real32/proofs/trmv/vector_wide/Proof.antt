@@ -1,3 +1,4 @@
+-- Block after block of the only line: a walk of steps (WalkLaws: walk-block; Multiplies: only-line).
 use Rattle.triangle_real32.proofs.Words.{_+_, _≤_, _-_, _≡_, refl, _∙_, arith, length, walk, multiplyOne, walk-start, walk-block, walk-end, ready-kept, only-line, K}
 use Rattle.triangle_real32.proofs.trmv.vector_wide.Statement.{statement}
 use Rattle.triangle_real32.proofs.trmv.vector_wide.Tie as tie

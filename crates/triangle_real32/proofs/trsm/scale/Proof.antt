@@ -1,3 +1,4 @@
+-- Row after row of the fold (LoopLaws: rows-next, rows-last).
 use Rattle.triangle_real32.proofs.Words.{rows-begun, rows-next, rows-last, updateRows, everywhere, needs, length, _≤_, _-_, _≡_, refl, _∙_, row-in, arith, K, value}
 use Rattle.triangle_real32.proofs.trsm.scale.Statement.{statement}
 use Rattle.triangle_real32.proofs.trsm.scale.Tie as tie

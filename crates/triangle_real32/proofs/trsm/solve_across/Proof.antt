@@ -1,3 +1,4 @@
+-- Line after line of one unknown: a walk of steps (WalkLaws: walk-next, walk-end).
 use Rattle.triangle_real32.proofs.Words.{_≤_, _-_, _≡_, refl, _∙_, arith, length, walk, timesIf, solveUnknown, walk-start, walk-next, walk-end, ready-for, K, value}
 use Rattle.triangle_real32.proofs.trsm.solve_across.Statement.{statement}
 use Rattle.triangle_real32.proofs.trsm.solve_across.Tie as tie

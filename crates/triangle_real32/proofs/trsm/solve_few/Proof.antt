@@ -1,3 +1,4 @@
+-- Unknowns up to the first zero pivot, in the lines that are solved, are the solve (Solves: lines-solved).
 use Rattle.triangle_real32.proofs.Words.{lines-in, unknowns-in, lines-solved, needs, K}
 use Rattle.triangle_real32.proofs.trsm.solve_few.Statement.{statement}
 use Rattle.triangle_real32.proofs.trsm.solve_few.Tie as tie

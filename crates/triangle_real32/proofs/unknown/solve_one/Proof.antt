@@ -1,3 +1,4 @@
+-- Begun with alpha, reduced, over its pivot, and put at its place: the unknown solved (Solves: solve-one-is).
 use Rattle.triangle_real32.proofs.Words.{ℕ, _<_, sym, subst, now, arith, shown, inside, timesIf, pivot-shown, unknown-shown, run-spans, solve-one-is, needs, K, value}
 use Rattle.triangle_real32.proofs.unknown.solve_one.Statement.{statement}
 use Rattle.triangle_real32.proofs.unknown.solve_one.Tie as tie

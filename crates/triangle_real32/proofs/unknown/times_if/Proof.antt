@@ -1,3 +1,4 @@
+-- The product with alpha where asked, else x as it is (Triangles: timesIf).
 use Rattle.triangle_real32.proofs.Words.{needs}
 use Rattle.triangle_real32.proofs.unknown.times_if.Statement.{statement}
 use Rattle.triangle_real32.proofs.unknown.times_if.Tie as tie

@@ -1,3 +1,4 @@
+-- The diagonal is matched: whether its element is zero, or no where it is unit (Solve: zeroDiag).
 use Rattle.triangle_real32.proofs.Words.{ap, _∙_, needs, K}
 use Rattle.triangle_real32.proofs.unknown.zero_pivot.Statement.{statement}
 use Rattle.triangle_real32.proofs.unknown.zero_pivot.Tie as tie

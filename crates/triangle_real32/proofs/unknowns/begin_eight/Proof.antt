@@ -1,3 +1,4 @@
+-- The eight elements read, each times alpha where asked (Runs: eight-then).
 use Rattle.triangle_real32.proofs.Words.{eight-then, needs, K, value}
 use Rattle.triangle_real32.proofs.unknowns.begin_eight.Statement.{statement}
 use Rattle.triangle_real32.proofs.unknowns.begin_eight.Tie as tie

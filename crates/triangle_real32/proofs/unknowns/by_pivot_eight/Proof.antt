@@ -1,3 +1,4 @@
+-- The diagonal is matched: each of the eight over its element, or as it is where it is unit (Solve: byDiag).
 use Rattle.triangle_real32.proofs.Words.{refl, subst, good-length, cell, Eight, needs, K}
 use Rattle.triangle_real32.proofs.unknowns.by_pivot_eight.Statement.{statement}
 use Rattle.triangle_real32.proofs.unknowns.by_pivot_eight.Tie as tie

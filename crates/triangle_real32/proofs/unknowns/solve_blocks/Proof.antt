@@ -1,3 +1,4 @@
+-- Block after block of the lines is a walk over them (WalkLaws: walk-block, walk-end).
 use Rattle.triangle_real32.proofs.Words.{_+_, _≤_, _-_, _≡_, refl, _∙_, arith, length, walk, timesIf, solveUnknown, walk-start, walk-block, walk-end, ready-for, K, value}
 use Rattle.triangle_real32.proofs.unknowns.solve_blocks.Statement.{statement}
 use Rattle.triangle_real32.proofs.unknowns.solve_blocks.Tie as tie

@@ -1,3 +1,4 @@
+-- Unknown after unknown, each across the lines: a walk of steps (WalkLaws: walk-next, walk-end).
 use Rattle.triangle_real32.proofs.Words.{_≤_, _-_, _≡_, refl, _∙_, arith, length, walk, timesIf, solveAcross, walk-start, walk-next, walk-end, ready-kept, K, value}
 use Rattle.triangle_real32.proofs.unknowns.solve_wide.Statement.{statement}
 use Rattle.triangle_real32.proofs.unknowns.solve_wide.Tie as tie

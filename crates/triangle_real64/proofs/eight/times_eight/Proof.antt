@@ -1,4 +1,4 @@
--- Each number in its turn (EightLaws).
+-- Each number is multiplied in its turn (EightLaws: part-next, part-end).
 use Rattle.triangle_real64.proofs.Words.{_-_, ap, _∙_, arith, good-length, cell, Part, part-start, part-next, part-end, slab, K, value}
 use Rattle.triangle_real64.proofs.eight.times_eight.Statement.{statement}
 use Rattle.triangle_real64.proofs.eight.times_eight.Tie as tie

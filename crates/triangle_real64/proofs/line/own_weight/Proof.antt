@@ -1,3 +1,4 @@
+-- The diagonal is matched: its element, conjugated where asked, or the literal one where it is unit (Multiply: ownDiag).
 use Rattle.triangle_real64.proofs.Words.{needs, one-literal}
 use Rattle.triangle_real64.proofs.line.own_weight.Statement.{statement}
 use Rattle.triangle_real64.proofs.line.own_weight.Tie as tie

@@ -1,3 +1,4 @@
+-- The eight sums are the runs so far; each turn adds a product to each (Runs: more-on, more-done).
 use Rattle.triangle_real64.proofs.Words.{_+_, _≤_, _-_, refl, now, arith, good-length, cell, Eight, elem, elemConj, plusTerms, run-end, span-left, span-right, more-first, more-on, more-done, K}
 use Rattle.triangle_real64.proofs.trmm.add_run_eight.Statement.{statement}
 use Rattle.triangle_real64.proofs.trmm.add_run_eight.Tie as tie

@@ -1,3 +1,4 @@
+-- Eight own terms and the runs behind them, or the runs before them first (LineSums: sums-behind, sums-before).
 use Rattle.triangle_real64.proofs.Words.{now, refl, arith, run-spans, sums-behind, sums-before, needs, K}
 use Rattle.triangle_real64.proofs.trmm.line_sums.Statement.{statement}
 use Rattle.triangle_real64.proofs.trmm.line_sums.Tie as tie

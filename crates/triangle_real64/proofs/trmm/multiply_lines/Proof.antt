@@ -1,3 +1,4 @@
+-- Line after line of B: a walk of steps (WalkLaws: walk-next, walk-end).
 use Rattle.triangle_real64.proofs.Words.{_≤_, _-_, _≡_, refl, _∙_, arith, length, walk, multiplyLine, ready-kept, walk-start, walk-next, walk-end, K, value}
 use Rattle.triangle_real64.proofs.trmm.multiply_lines.Statement.{statement}
 use Rattle.triangle_real64.proofs.trmm.multiply_lines.Tie as tie

@@ -1,3 +1,4 @@
+-- What is put at the element's place is alpha times its line's sum (Multiplies: multiply-one-is).
 use Rattle.triangle_real64.proofs.Words.{refl, arith, shown, inside, unknown-shown, multiply-one-is, needs, K}
 use Rattle.triangle_real64.proofs.trmm.multiply_one.Statement.{statement}
 use Rattle.triangle_real64.proofs.trmm.multiply_one.Tie as tie

@@ -1,4 +1,4 @@
--- Each term goes into the sums of the eight rows (Rows).
+-- The sums of the eight rows are the runs so far; each turn adds a term to each (Rows: rows-on, rows-done).
 use Rattle.triangle_real64.proofs.Words.{_≤_, _+_, _-_, refl, sym, now, arith, good-length, cell, Eight, plusTerms, lineTerm, unknown-shown, rows-shown, rows-first, rows-on, rows-done, commutes, self-conjugate, K}
 use Rattle.triangle_real64.proofs.trmv.add_rows.Statement.{statement}
 use Rattle.triangle_real64.proofs.trmv.add_rows.Tie as tie

@@ -1,3 +1,4 @@
+-- A row's pieces, behind or before its own term, are its sum (Rows: rows-behind, rows-before).
 use Rattle.triangle_real64.proofs.Words.{now, refl, arith, rows-behind, rows-before, needs, K}
 use Rattle.triangle_real64.proofs.trmv.row_sums.Statement.{statement}
 use Rattle.triangle_real64.proofs.trmv.row_sums.Tie as tie

@@ -1,3 +1,4 @@
+-- Element after element of the only line: a walk of steps (WalkLaws: walk-next; Multiplies: only-line).
 use Rattle.triangle_real64.proofs.Words.{_≤_, _-_, _≡_, refl, _∙_, arith, length, walk, multiplyOne, ready-for, only-line, walk-start, walk-next, walk-end, K}
 use Rattle.triangle_real64.proofs.trmv.vector_plain.Statement.{statement}
 use Rattle.triangle_real64.proofs.trmv.vector_plain.Tie as tie

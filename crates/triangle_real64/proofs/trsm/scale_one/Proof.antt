@@ -1,3 +1,4 @@
+-- What is put at the element's place is alpha times what it read there (Update: updateOne).
 use Rattle.triangle_real64.proofs.Words.{ap, _∙_, now, arith, updateOne, shown, inside, needs, K, value}
 use Rattle.triangle_real64.proofs.trsm.scale_one.Statement.{statement}
 use Rattle.triangle_real64.proofs.trsm.scale_one.Tie as tie

@@ -1,3 +1,4 @@
+-- The side is matched: on the left nothing is scaled, on the right all of B (Triangles: scaledRight).
 use Rattle.triangle_real64.proofs.Words.{needs}
 use Rattle.triangle_real64.proofs.trsm.scale_right.Statement.{statement}
 use Rattle.triangle_real64.proofs.trsm.scale_right.Tie as tie

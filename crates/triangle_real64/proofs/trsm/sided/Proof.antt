@@ -1,3 +1,4 @@
+-- The solve of the system, after alpha on the right, is the side's (Solves: solved-gives; SolveKernels: sided-gives).
 use Rattle.triangle_real64.proofs.Words.{ready-made, solved-gives, sided-gives, needs, commutes, swaps, laws, K}
 use Rattle.triangle_real64.proofs.trsm.sided.Statement.{statement}
 use Rattle.triangle_real64.proofs.trsm.sided.Tie as tie

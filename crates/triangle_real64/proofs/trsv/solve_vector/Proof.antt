@@ -1,3 +1,4 @@
+-- No zero pivot so far, and the unknowns so far solved (Solves: clear-next, vector-stopped, vector-done; WalkLaws: walk-next).
 use Rattle.triangle_real64.proofs.Words.{_≤_, _-_, _≡_, refl, _∙_, arith, length, walk, solveUnknown, zeroAfter, walk-start, walk-next, ready-for, Clear, clear-start, clear-next, first-found, first-nowhere, vector-stopped, vector-done, K}
 use Rattle.triangle_real64.proofs.trsv.solve_vector.Statement.{statement}
 use Rattle.triangle_real64.proofs.trsv.solve_vector.Tie as tie

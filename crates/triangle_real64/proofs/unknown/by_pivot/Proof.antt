@@ -1,3 +1,4 @@
+-- The diagonal is matched: x over its element, conjugated where asked, or x as it is where it is unit (Solve: byDiag).
 use Rattle.triangle_real64.proofs.Words.{refl, ap, _∙_, needs, K}
 use Rattle.triangle_real64.proofs.unknown.by_pivot.Statement.{statement}
 use Rattle.triangle_real64.proofs.unknown.by_pivot.Tie as tie

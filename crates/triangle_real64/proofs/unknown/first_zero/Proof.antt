@@ -1,3 +1,4 @@
+-- No zero pivot so far: the loop stops at the first, or past all (Solves: clear-next, first-found, first-nowhere).
 use Rattle.triangle_real64.proofs.Words.{_≤_, _-_, arith, zeroAfter, Clear, clear-start, clear-next, first-found, first-nowhere, K}
 use Rattle.triangle_real64.proofs.unknown.first_zero.Statement.{statement}
 use Rattle.triangle_real64.proofs.unknown.first_zero.Tie as tie

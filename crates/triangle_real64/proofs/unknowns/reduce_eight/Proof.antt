@@ -1,3 +1,4 @@
+-- The eight are their numbers less the runs so far; each turn takes a product off each (Runs: less-on, less-done).
 use Rattle.triangle_real64.proofs.Words.{_+_, _≤_, _-_, refl, now, arith, good-length, cell, Eight, elem, elemConj, minusTerms, run-end, span-left, span-right, less-first, less-on, less-done, K}
 use Rattle.triangle_real64.proofs.unknowns.reduce_eight.Statement.{statement}
 use Rattle.triangle_real64.proofs.unknowns.reduce_eight.Tie as tie

@@ -1,3 +1,4 @@
+-- Eight unknowns worked out before any is written are solved one by one (Lines: solve-eight-is).
 use Rattle.triangle_real64.proofs.Words.{now, arith, timesIf, unknown-shown, run-spans, solve-eight-is, needs, laws, K, value}
 use Rattle.triangle_real64.proofs.unknowns.solve_eight.Statement.{statement}
 use Rattle.triangle_real64.proofs.unknowns.solve_eight.Tie as tie
