@@ -1,18 +1,22 @@
 # make demo: the two-point path. make test: the gate. The rest builds the archive, tests its bindings and compares with the Rust (oracle/).
 .PHONY: demo numbers test archive c-test rust-test oracle-test lists counts compare bench netlib-examples need-rt need-cargo need-cc
 
-ARCHIVE = target/staticlib/libcapi.a
+ARCHIVE = target/libzirve_blas.a
+KINDS = real64 real32 complex
 
-# From C and from Rust, through the proved archive.
-demo: need-rt need-cc need-cargo $(ARCHIVE)
-	@$(CC) -std=c11 -O1 -Wall -Wextra -Iinclude -o target/two_point demo/two_point.c $(ARCHIVE)
+# A part of the archive: the functions of one number kind, proved and built by itself.
+PARTS = $(KINDS:%=target/staticlib/libcapi_%.a)
+
+# From C and from Rust, through the proved functions of f64.
+demo: need-rt need-cc need-cargo $(firstword $(PARTS))
+	@$(CC) -std=c11 -O1 -Wall -Wextra -Iinclude -o target/two_point demo/two_point.c $(firstword $(PARTS))
 	@echo "From C (demo/two_point.c)"
 	@echo
 	@target/two_point
 	@echo
 	@echo "From Rust (bindings/rust/examples/two_point.rs)"
 	@echo
-	@cd bindings/rust && cargo run --offline --quiet --example two_point
+	@cd bindings/rust && ZB_ARCHIVE=$(abspath $(firstword $(PARTS))) cargo run --offline --quiet --example two_point
 
 # The worked numbers, printed.
 numbers: need-rt
@@ -26,14 +30,26 @@ test: need-rt
 	rt fmt --check
 	rt ci
 
-# For C and Rust; include/zirve_blas.h declares its functions. Built again when a crate has changed.
+# For C and Rust; include/zirve_blas.h declares its functions.
 archive: $(ARCHIVE)
 
-$(ARCHIVE): crates.txt $(shell find crates -name '*.rt' -o -name '*.antt') | need-rt
+$(ARCHIVE): $(PARTS) | need-cc
+	@printf 'create $@\n$(PARTS:%=addlib %\n)save\nend\n' | $(AR) -M
+
+# A crate and all that it uses, by crates.txt.
+used = $(shell awk -F: -v want=$(1) '{ uses[$$1] = $$2 } END { n = split(want, q, " "); \
+	for (i = 1; i <= n; i++) if (q[i] in uses && !seen[q[i]]++) { print q[i]; m = split(uses[q[i]], d, " "); for (k = 1; k <= m; k++) q[++n] = d[k] } }' crates.txt)
+
+# Built again when a crate that it uses has changed. Those under it are proved first, two at a time; for the whole archive, those under every part.
+$(ARCHIVE): MADE = $(KINDS)
+
+.SECONDEXPANSION:
+$(PARTS): target/staticlib/libcapi_%.a: $$(shell find $$(addprefix crates/,$$(call used,capi_$$*)) -name '*.rt' -o -name '*.antt') | need-rt
 	@mkdir -p target
-	@echo "Proving the kernels and building $(ARCHIVE) (some minutes from nothing) .."
-	@rt staticlib capi > target/archive.log 2>&1 || { tail -n 20 target/archive.log; echo "not proved; target/archive.log has the whole report" >&2; exit 1; }
-	@touch $(ARCHIVE)
+	@echo "Proving the kernels of $* and building $@ (some minutes from nothing) .."
+	@{ rt check $(sort $(foreach k,$(or $(MADE),$*),$(filter-out capi_$(k),$(call used,capi_$(k))))) && rt staticlib capi_$*; } > target/capi_$*.log 2>&1 \
+		|| { tail -n 20 target/capi_$*.log; echo "not proved; target/capi_$*.log has the whole report" >&2; exit 1; }
+	@touch $@
 
 # Under the compiler's checks of addresses and undefined behaviour, where it has them.
 SANITIZE = $(shell echo 'int main(void) { return 0; }' | $(CC) -x c -fsanitize=address,undefined -o /dev/null - 2> /dev/null && echo -fsanitize=address,undefined)

@@ -12,7 +12,7 @@ const SOURCE: &str = "../../shared/docs/src/src--src--math--";
 const FINGERPRINT: u64 = 0x3da0_22f9_a6d9_b75a;
 
 /// The static library with the C interface, seen from this directory.
-const ARCHIVE: &str = "../target/staticlib/libcapi.a";
+const ARCHIVE: &str = "../target/libzirve_blas.a";
 
 const ITEMS: [&str; 3] = ["pub mod level2 {", "pub mod level3 {", "pub struct DefaultBlas;"];
 
@@ -214,7 +214,7 @@ fn link_interface(archive: &Path) {
     if linked {
         println!("cargo:rustc-cfg=capi");
         println!("cargo:rustc-link-search=native={}", archive.parent().unwrap().display());
-        println!("cargo:rustc-link-lib=static=capi");
+        println!("cargo:rustc-link-lib=static=zirve_blas");
     }
 }
 

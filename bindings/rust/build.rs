@@ -1,4 +1,4 @@
-//! Links the archive with the kernels: ZB_ARCHIVE, else target/staticlib/libcapi.a of this repository.
+//! Links the archive with the kernels: ZB_ARCHIVE, else target/libzirve_blas.a of this repository.
 
 use std::env;
 use std::path::PathBuf;
@@ -7,7 +7,7 @@ fn main() {
     let here = PathBuf::from(env::var("CARGO_MANIFEST_DIR").unwrap());
     let archive = match env::var("ZB_ARCHIVE") {
         Ok(path) => PathBuf::from(path),
-        Err(_) => here.join("../../target/staticlib/libcapi.a"),
+        Err(_) => here.join("../../target/libzirve_blas.a"),
     };
     println!("cargo:rerun-if-env-changed=ZB_ARCHIVE");
     println!("cargo:rerun-if-changed={}", archive.display());
@@ -16,5 +16,6 @@ fn main() {
         std::process::exit(1);
     }
     println!("cargo:rustc-link-search=native={}", archive.parent().unwrap().display());
-    println!("cargo:rustc-link-lib=static=capi");
+    let name = archive.file_stem().unwrap().to_str().unwrap();
+    println!("cargo:rustc-link-lib=static={}", name.strip_prefix("lib").unwrap_or(name));
 }

@@ -6,8 +6,33 @@ use crate::bytes::u64_at;
 // `ZBLIST01` as a number.
 const FORMAT: u64 = 0x3130_5453_494c_425a;
 
+// A list that is being replayed: its file, its records and how many of them are left, and for each routine and kind how many calls were made and how many agreed.
+pub struct List {
+    pub fd: i32,
+    pub records: u64,
+    pub left: u64,
+    pub calls: [u64; 64],
+    pub agreed: [u64; 64],
+}
+
+// The list of that name; of one that cannot be read it says so, and no record is left.
+pub fn open(path: &[u8]) -> List {
+    let fd = os::open_read(path);
+    if fd < 0 {
+        os::fail(path);
+    }
+    let n = records(fd);
+    List {
+        fd,
+        records: n,
+        left: n,
+        calls: [0; 64],
+        agreed: [0; 64],
+    }
+}
+
 // The number of records, which stands at the file's start; 0 where the file is no list.
-pub fn records(fd: i32) -> u64 {
+fn records(fd: i32) -> u64 {
     let mut head = [0u8; 16];
     if io::read_full(fd, &mut head) != 16 {
         return 0;

@@ -6,12 +6,14 @@ use crate::bytes::byte;
 use crate::bytes::double_at;
 use crate::bytes::signed;
 use crate::bytes::wide;
-use crate::cells::SLAB;
 use view::Diag;
 use view::Side;
 use view::Trans;
 use view::UpLo;
 use view::View;
+
+// The most cells of a slab.
+const SLAB: usize = 144;
 
 pub fn routine(body: &[u8]) -> u8
     ensures { λ r. ⌜ r ≡ getD (now (body .entry)) 0 0 ⌝ }
@@ -19,7 +21,8 @@ pub fn routine(body: &[u8]) -> u8
     byte(body, 0)
 }
 
-pub fn kind(body: &[u8]) -> u8
+// The number kind of a record: 0 is f64, 1 f32, 2 complex, 3 a check's, of views alone.
+pub fn kind_of(body: &[u8]) -> u8
     ensures { λ r. ⌜ r ≡ getD (now (body .entry)) 1 0 ⌝ }
 {
     byte(body, 1)
@@ -42,6 +45,19 @@ fn views(body: &[u8]) -> u8
 pub fn target(body: &[u8]) -> u8 {
     let n = views(body);
     if n == 0 { 0 } else { n - 1 }
+}
+
+// The number of views that a routine has.
+fn views_of(routine: u8) -> u8 {
+    match routine {
+        2 | 4 | 5 | 9 | 10 | 13 | 14 => 2,
+        _ => 3,
+    }
+}
+
+// Where part k of the scalars begins: alpha's two parts, then beta's.
+pub fn scalar_place(k: u8) -> usize {
+    8 + 8 * wide(k) as usize
 }
 
 // Flag k of the routine's arguments.
@@ -146,7 +162,7 @@ fn size(body: &[u8], cells: usize) -> usize
     requires { ⌜ cells ≤ 432 ⌝ }
     ensures { λ r. ⌜ r ≤ 3456 ⌝ }
 {
-    if kind(body) == 1 {
+    if kind_of(body) == 1 {
         4 * cells
     } else {
         8 * cells
@@ -172,13 +188,11 @@ fn short(body: &[u8], k: u8) -> bool {
     length_at(body, place(k)) <= SLAB
 }
 
-// Whether a record of a call has two or three views, and as many bytes as these ask.
-pub fn whole(body: &[u8]) -> bool {
+// Whether a record of a call has its routine's views, and as many bytes as these ask.
+fn whole(body: &[u8]) -> bool {
     let last = target(body);
-    if last != 1 {
-        if last != 2 {
-            return false;
-        }
+    if views(body) != views_of(routine(body)) {
+        return false;
     }
     if !short(body, 0) {
         return false;
@@ -192,7 +206,16 @@ pub fn whole(body: &[u8]) -> bool {
     body.len() == after(body) + size(body, length(body, last))
 }
 
-// The same of a record of a check.
+// The number kind of a record of a call that is whole; 255 of any other.
+pub fn kind(body: &[u8]) -> u8 {
+    if whole(body) { kind_of(body) } else { 255 }
+}
+
+// Whether a record of a check is whole.
 pub fn check_whole(body: &[u8]) -> bool {
-    body.len() == check_place(views(body))
+    if views(body) == views_of(routine(body)) {
+        body.len() == check_place(views(body))
+    } else {
+        false
+    }
 }

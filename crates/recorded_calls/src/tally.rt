@@ -1,6 +1,8 @@
 // How many calls of each routine and kind were made, and how many agreed.
+ghost use Prim.Native.Nat.{_<_};
 use crate::bytes::wide;
-use crate::record::kind;
+use crate::file::List;
+use crate::record::kind_of;
 use crate::record::routine;
 
 // The place of a routine and a kind in the counts.
@@ -8,21 +10,37 @@ fn slot(routine: u8, kind: u8) -> usize {
     4 * wide(routine) as usize + wide(kind) as usize
 }
 
-fn add_one(counts: &mut [u64], at: usize) {
-    if at < counts.len() {
-        if counts[at] < u64::MAX {
-            counts[at] += 1;
+fn one_more(counts: [u64; 64], at: usize) -> [u64; 64] {
+    let mut c = counts;
+    if at < 64 {
+        if c[at] < u64::MAX {
+            c[at] += 1;
         }
     }
+    c
 }
 
-// Counts the call of a record.
-pub fn count(body: &[u8], agrees: bool, calls: &mut [u64], agreed: &mut [u64]) {
-    let at = slot(routine(body), kind(body));
-    add_one(calls, at);
-    if agrees {
-        add_one(agreed, at);
+// The list with the call of its next record counted; no record is left where there was none.
+pub fn counted(list: List, body: &[u8], agrees: bool) -> List
+    requires { ⌜ 0 < list .left ⌝ }
+    ensures { λ r. ⌜ r .left < list .left ⌝ }
+{
+    let mut l = list;
+    if body.len() == 0 {
+        l.left = 0;
+        return l;
     }
+    l.left -= 1;
+    let at = slot(routine(body), kind_of(body));
+    let calls = l.calls;
+    let more = one_more(calls, at);
+    l.calls = more;
+    if agrees {
+        let agreed = l.agreed;
+        let more = one_more(agreed, at);
+        l.agreed = more;
+    }
+    l
 }
 
 fn text(s: &[u8]) {
@@ -62,12 +80,12 @@ fn kind_name(kind: u8) {
     }
 }
 
-fn at_or_zero(counts: &[u64], at: usize) -> u64 {
-    if at < counts.len() { counts[at] } else { 0 }
+fn at_or_zero(counts: &[u64; 64], at: usize) -> u64 {
+    if at < 64 { counts[at] } else { 0 }
 }
 
 // One line for a routine and a kind that were called.
-fn line(routine: u8, kind: u8, calls: &[u64], agreed: &[u64]) {
+fn line(routine: u8, kind: u8, calls: &[u64; 64], agreed: &[u64; 64]) {
     let at = slot(routine, kind);
     let n = at_or_zero(calls, at);
     if n == 0 {
@@ -83,7 +101,7 @@ fn line(routine: u8, kind: u8, calls: &[u64], agreed: &[u64]) {
     text(b" agreed\n");
 }
 
-fn lines(routine: u8, calls: &[u64], agreed: &[u64]) {
+fn lines(routine: u8, calls: &[u64; 64], agreed: &[u64; 64]) {
     line(routine, 0, calls, agreed);
     line(routine, 1, calls, agreed);
     line(routine, 2, calls, agreed);
@@ -94,17 +112,17 @@ fn sum(a: u64, b: u64) -> u64 {
     if a <= u64::MAX - b { a + b } else { u64::MAX }
 }
 
-fn total(counts: &[u64]) -> u64 {
+fn total(counts: &[u64; 64]) -> u64 {
     let mut t = 0;
     let mut i = 0;
-    while i < counts.len() {
+    while i < 64 {
         t = sum(t, counts[i]);
         i += 1;
     }
     t
 }
 
-fn all_lines(calls: &[u64], agreed: &[u64]) {
+fn all_lines(calls: &[u64; 64], agreed: &[u64; 64]) {
     let mut routine = 0;
     while routine < 15 {
         lines(routine, calls, agreed);
@@ -113,13 +131,19 @@ fn all_lines(calls: &[u64], agreed: &[u64]) {
 }
 
 // A line for each routine and kind that were called, then the list's records and how many of them agreed.
-pub fn report(records: u64, calls: &[u64], agreed: &[u64]) {
-    all_lines(calls, agreed);
+pub fn report(list: List) {
+    if list.fd < 0 {
+        return;
+    }
+    libc::close(list.fd);
+    let calls = list.calls;
+    let agreed = list.agreed;
+    all_lines(&calls, &agreed);
     text(b"total: ");
-    number(records);
+    number(list.records);
     text(b" records, ");
-    number(total(calls));
+    number(total(&calls));
     text(b" calls, ");
-    number(total(agreed));
+    number(total(&agreed));
     text(b" agreed\n");
 }

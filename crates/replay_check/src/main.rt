@@ -5,42 +5,17 @@ use recorded_calls::check_length;
 use recorded_calls::check_view;
 use recorded_calls::side;
 use recorded_calls::trans;
+use view::number;
 
 fn main() {
-    let path = b"check.bin";
-    let fd = os::open_read(path);
-    if fd < 0 {
-        os::fail(path);
-        return;
+    let mut list = recorded_calls::open(b"check.bin");
+    while list.left > 0 {
+        let mut space = io::buffer();
+        let n = recorded_calls::next(list.fd, &mut space);
+        let agreed = agrees(&space[..n]);
+        list = recorded_calls::counted(list, &space[..n], agreed);
     }
-    let mut calls = [0u64; 64];
-    let mut agreed = [0u64; 64];
-    let records = recorded_calls::records(fd);
-    replay(fd, records, &mut calls, &mut agreed);
-    libc::close(fd);
-    recorded_calls::report(records, &calls, &agreed);
-}
-
-fn replay(fd: i32, records: u64, calls: &mut [u64], agreed: &mut [u64]) {
-    let mut left = records;
-    while left > 0 && replay_one(fd, calls, agreed) {
-        left -= 1;
-    }
-}
-
-// Replays the next record, and answers whether there was one.
-fn replay_one(fd: i32, calls: &mut [u64], agreed: &mut [u64]) -> bool {
-    let mut space = io::buffer();
-    let n = recorded_calls::next(fd, &mut space);
-    if n == 0 {
-        return false;
-    }
-    judge(&space[..n], calls, agreed);
-    true
-}
-
-fn judge(body: &[u8], calls: &mut [u64], agreed: &mut [u64]) {
-    recorded_calls::count(body, agrees(body), calls, agreed);
+    recorded_calls::report(list);
 }
 
 fn agrees(body: &[u8]) -> bool {
@@ -53,49 +28,31 @@ fn agrees(body: &[u8]) -> bool {
 
 // The number of the answer that the check of the record's routine gives; 255 where there is no such routine.
 fn answer(body: &[u8]) -> u8 {
-    if recorded_calls::target(body) == 1 {
-        two_views(body)
-    } else {
-        three_views(body)
-    }
-}
-
-fn two_views(body: &[u8]) -> u8 {
-    let a = check_view(body, 0);
-    let la = check_length(body, 0);
-    let b = check_view(body, 1);
-    let lb = check_length(body, 1);
-    match recorded_calls::routine(body) {
-        2 => view::number(checks::her(a, la, b, lb)),
-        4 => view::number(checks::trmv(a, la, b, lb)),
-        5 => view::number(checks::trsv(a, la, b, lb)),
-        9 => view::number(checks::syrk(trans(body, 1), a, la, b, lb)),
-        10 => view::number(checks::herk(trans(body, 1), a, la, b, lb)),
-        13 => view::number(checks::trmm(side(body, 0), a, la, b, lb)),
-        14 => view::number(checks::trsm(side(body, 0), a, la, b, lb)),
-        _ => 255,
-    }
-}
-
-fn three_views(body: &[u8]) -> u8 {
     let a = check_view(body, 0);
     let la = check_length(body, 0);
     let b = check_view(body, 1);
     let lb = check_length(body, 1);
     let c = check_view(body, 2);
     let lc = check_length(body, 2);
-    let t = trans(body, 0);
     let s = side(body, 0);
+    let t = trans(body, 0);
     let u = trans(body, 1);
     match recorded_calls::routine(body) {
-        0 => view::number(checks::gemv(t, a, la, b, lb, c, lc)),
-        1 => view::number(checks::hemv(a, la, b, lb, c, lc)),
-        3 => view::number(checks::her2(a, la, b, lb, c, lc)),
-        6 => view::number(checks::gemm(t, u, a, la, b, lb, c, lc)),
-        7 => view::number(checks::symm(s, a, la, b, lb, c, lc)),
-        8 => view::number(checks::hemm(s, a, la, b, lb, c, lc)),
-        11 => view::number(checks::syr2k(u, a, la, b, lb, c, lc)),
-        12 => view::number(checks::her2k(u, a, la, b, lb, c, lc)),
+        0 => number(checks::gemv(t, a, la, b, lb, c, lc)),
+        1 => number(checks::hemv(a, la, b, lb, c, lc)),
+        2 => number(checks::her(a, la, b, lb)),
+        3 => number(checks::her2(a, la, b, lb, c, lc)),
+        4 => number(checks::trmv(a, la, b, lb)),
+        5 => number(checks::trsv(a, la, b, lb)),
+        6 => number(checks::gemm(t, u, a, la, b, lb, c, lc)),
+        7 => number(checks::symm(s, a, la, b, lb, c, lc)),
+        8 => number(checks::hemm(s, a, la, b, lb, c, lc)),
+        9 => number(checks::syrk(u, a, la, b, lb)),
+        10 => number(checks::herk(u, a, la, b, lb)),
+        11 => number(checks::syr2k(u, a, la, b, lb, c, lc)),
+        12 => number(checks::her2k(u, a, la, b, lb, c, lc)),
+        13 => number(checks::trmm(s, a, la, b, lb)),
+        14 => number(checks::trsm(s, a, la, b, lb)),
         _ => 255,
     }
 }

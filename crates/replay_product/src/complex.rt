@@ -1,91 +1,53 @@
-// Replays a call in complex numbers.
-use number::Complex;
+// Replays a call of product_complex.
+use recorded_calls::complex::agree;
+use recorded_calls::complex::alpha;
+use recorded_calls::complex::beta;
+use recorded_calls::complex::kept;
+use recorded_calls::complex::scalar;
+use recorded_calls::complex::slab;
+use recorded_calls::routine;
 use recorded_calls::side;
+use recorded_calls::target;
 use recorded_calls::trans;
 use recorded_calls::uplo;
+use recorded_calls::view;
+use view::number;
 
 // Whether the call gives the record's answer and the target's slab after the call, and leaves the others.
 pub fn agrees(body: &[u8]) -> bool {
-    let last = recorded_calls::target(body);
-    let a = recorded_calls::slab64(body, recorded_calls::slab(body, 0));
-    let b = recorded_calls::slab64(body, recorded_calls::slab(body, 1));
-    let mut c = recorded_calls::slab64(body, recorded_calls::slab(body, last));
-    let la = recorded_calls::length(body, 0);
-    let lb = recorded_calls::length(body, 1);
-    let lc = recorded_calls::length(body, last);
-    compare(body, &a[..la], &b[..lb], &mut c[..lc])
-}
-
-fn compare(body: &[u8], a: &[f64], b: &[f64], c: &mut [f64]) -> bool {
-    if call(body, a, b, c) == recorded_calls::answer(body) {
-        if recorded_calls::same64(body, recorded_calls::slab(body, 0), a) {
-            if recorded_calls::same64(body, recorded_calls::slab(body, 1), b) {
-                return recorded_calls::same64(body, recorded_calls::after(body), c);
-            }
-        }
-    }
-    false
-}
-
-fn call(body: &[u8], a: &[f64], b: &[f64], c: &mut [f64]) -> u8 {
-    if recorded_calls::target(body) == 1 {
-        two_slabs(body, a, c)
+    let mut s = [0.0; 144];
+    let mut t = [0.0; 144];
+    let mut u = [0.0; 144];
+    let a = slab(body, 0, &mut s);
+    let b = slab(body, 1, &mut t);
+    let c = slab(body, target(body), &mut u);
+    let answer = call(body, a, b, c);
+    if agree(body, answer, a, c) {
+        kept(body, 1, b)
     } else {
-        three_slabs(body, a, b, c)
-    }
-}
-
-fn alpha(body: &[u8]) -> Complex {
-    Complex {
-        re: recorded_calls::scalar64(body, 0),
-        im: recorded_calls::scalar64(body, 1),
-    }
-}
-
-fn beta(body: &[u8]) -> Complex {
-    Complex {
-        re: recorded_calls::scalar64(body, 2),
-        im: recorded_calls::scalar64(body, 3),
+        false
     }
 }
 
 // The number of the answer; 255 where there is no such routine.
-fn two_slabs(body: &[u8], a: &[f64], c: &mut [f64]) -> u8 {
-    let u = uplo(body, 0);
-    let t = trans(body, 1);
-    let va = recorded_calls::view(body, 0);
-    let vc = recorded_calls::view(body, 1);
-    match recorded_calls::routine(body) {
-        9 => view::number(product_complex::syrk(u, t, alpha(body), a, va, beta(body), c, vc)),
-        10 => view::number(product_complex::herk(
-            u,
-            t,
-            recorded_calls::scalar64(body, 0),
-            a,
-            va,
-            recorded_calls::scalar64(body, 2),
-            c,
-            vc,
-        )),
-        _ => 255,
-    }
-}
-
-fn three_slabs(body: &[u8], a: &[f64], b: &[f64], c: &mut [f64]) -> u8 {
+fn call(body: &[u8], a: &[f64], b: &[f64], c: &mut [f64]) -> u8 {
     let p = alpha(body);
     let q = beta(body);
-    let va = recorded_calls::view(body, 0);
-    let vb = recorded_calls::view(body, 1);
-    let vc = recorded_calls::view(body, 2);
-    let t = trans(body, 0);
-    let v = trans(body, 1);
-    let s = side(body, 0);
-    match recorded_calls::routine(body) {
-        0 => view::number(product_complex::gemv(t, p, a, va, b, vb, q, c, vc)),
-        1 => view::number(product_complex::hemv(uplo(body, 0), p, a, va, b, vb, q, c, vc)),
-        6 => view::number(product_complex::gemm(t, v, p, a, va, b, vb, q, c, vc)),
-        7 => view::number(product_complex::symm(s, uplo(body, 1), p, a, va, b, vb, q, c, vc)),
-        8 => view::number(product_complex::hemm(s, uplo(body, 1), p, a, va, b, vb, q, c, vc)),
+    let x = scalar(body, 0);
+    let y = scalar(body, 2);
+    let va = view(body, 0);
+    let vb = view(body, 1);
+    let vc = view(body, target(body));
+    let t = trans(body, 1);
+    let u = uplo(body, 1);
+    match routine(body) {
+        0 => number(product_complex::gemv(trans(body, 0), p, a, va, b, vb, q, c, vc)),
+        1 => number(product_complex::hemv(uplo(body, 0), p, a, va, b, vb, q, c, vc)),
+        6 => number(product_complex::gemm(trans(body, 0), t, p, a, va, b, vb, q, c, vc)),
+        7 => number(product_complex::symm(side(body, 0), u, p, a, va, b, vb, q, c, vc)),
+        8 => number(product_complex::hemm(side(body, 0), u, p, a, va, b, vb, q, c, vc)),
+        9 => number(product_complex::syrk(uplo(body, 0), t, p, a, va, q, c, vc)),
+        10 => number(product_complex::herk(uplo(body, 0), t, x, a, va, y, c, vc)),
         _ => 255,
     }
 }

@@ -4,51 +4,17 @@ mod real32;
 mod real64;
 
 fn main() {
-    let path = b"product.bin";
-    let fd = os::open_read(path);
-    if fd < 0 {
-        os::fail(path);
-        return;
+    let mut list = recorded_calls::open(b"product.bin");
+    while list.left > 0 {
+        let mut space = io::buffer();
+        let n = recorded_calls::next(list.fd, &mut space);
+        let agreed = agrees(&space[..n]);
+        list = recorded_calls::counted(list, &space[..n], agreed);
     }
-    let mut calls = [0u64; 64];
-    let mut agreed = [0u64; 64];
-    let records = recorded_calls::records(fd);
-    replay(fd, records, &mut calls, &mut agreed);
-    libc::close(fd);
-    recorded_calls::report(records, &calls, &agreed);
-}
-
-fn replay(fd: i32, records: u64, calls: &mut [u64], agreed: &mut [u64]) {
-    let mut left = records;
-    while left > 0 && replay_one(fd, calls, agreed) {
-        left -= 1;
-    }
-}
-
-// Replays the next record, and answers whether there was one.
-fn replay_one(fd: i32, calls: &mut [u64], agreed: &mut [u64]) -> bool {
-    let mut space = io::buffer();
-    let n = recorded_calls::next(fd, &mut space);
-    if n == 0 {
-        return false;
-    }
-    judge(&space[..n], calls, agreed);
-    true
-}
-
-fn judge(body: &[u8], calls: &mut [u64], agreed: &mut [u64]) {
-    recorded_calls::count(body, agrees(body), calls, agreed);
+    recorded_calls::report(list);
 }
 
 fn agrees(body: &[u8]) -> bool {
-    if recorded_calls::whole(body) {
-        agrees_in_kind(body)
-    } else {
-        false
-    }
-}
-
-fn agrees_in_kind(body: &[u8]) -> bool {
     match recorded_calls::kind(body) {
         0 => real64::agrees(body),
         1 => real32::agrees(body),

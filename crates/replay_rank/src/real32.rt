@@ -1,80 +1,46 @@
-// Replays a call in f32.
-use number::Real32;
+// Replays a call of rank_real32.
+use recorded_calls::real32::agree;
+use recorded_calls::real32::alpha;
+use recorded_calls::real32::beta;
+use recorded_calls::real32::kept;
+use recorded_calls::real32::scalar;
+use recorded_calls::real32::slab;
+use recorded_calls::routine;
+use recorded_calls::target;
 use recorded_calls::trans;
 use recorded_calls::uplo;
+use recorded_calls::view;
+use view::number;
 
 // Whether the call gives the record's answer and the target's slab after the call, and leaves the others.
 pub fn agrees(body: &[u8]) -> bool {
-    let last = recorded_calls::target(body);
-    let a = recorded_calls::slab32(body, recorded_calls::slab(body, 0));
-    let b = recorded_calls::slab32(body, recorded_calls::slab(body, 1));
-    let mut c = recorded_calls::slab32(body, recorded_calls::slab(body, last));
-    let la = recorded_calls::length(body, 0);
-    let lb = recorded_calls::length(body, 1);
-    let lc = recorded_calls::length(body, last);
-    compare(body, &a[..la], &b[..lb], &mut c[..lc])
-}
-
-fn compare(body: &[u8], a: &[f32], b: &[f32], c: &mut [f32]) -> bool {
-    if call(body, a, b, c) == recorded_calls::answer(body) {
-        if recorded_calls::same32(body, recorded_calls::slab(body, 0), a) {
-            if recorded_calls::same32(body, recorded_calls::slab(body, 1), b) {
-                return recorded_calls::same32(body, recorded_calls::after(body), c);
-            }
-        }
-    }
-    false
-}
-
-fn call(body: &[u8], a: &[f32], b: &[f32], c: &mut [f32]) -> u8 {
-    if recorded_calls::target(body) == 1 {
-        two_slabs(body, a, c)
+    let mut s = [0.0; 144];
+    let mut t = [0.0; 144];
+    let mut u = [0.0; 144];
+    let a = slab(body, 0, &mut s);
+    let b = slab(body, 1, &mut t);
+    let c = slab(body, target(body), &mut u);
+    let answer = call(body, a, b, c);
+    if agree(body, answer, a, c) {
+        kept(body, 1, b)
     } else {
-        three_slabs(body, a, b, c)
+        false
     }
-}
-
-fn alpha(body: &[u8]) -> Real32 {
-    Real32(recorded_calls::scalar32(body, 0))
-}
-
-fn beta(body: &[u8]) -> Real32 {
-    Real32(recorded_calls::scalar32(body, 2))
 }
 
 // The number of the answer; 255 where there is no such routine.
-fn two_slabs(body: &[u8], x: &[f32], a: &mut [f32]) -> u8 {
-    let u = uplo(body, 0);
-    let vx = recorded_calls::view(body, 0);
-    let va = recorded_calls::view(body, 1);
-    match recorded_calls::routine(body) {
-        2 => view::number(rank_real32::her(u, recorded_calls::scalar32(body, 0), x, vx, a, va)),
-        _ => 255,
-    }
-}
-
-fn three_slabs(body: &[u8], a: &[f32], b: &[f32], c: &mut [f32]) -> u8 {
+fn call(body: &[u8], a: &[f32], b: &[f32], c: &mut [f32]) -> u8 {
     let p = alpha(body);
     let u = uplo(body, 0);
     let t = trans(body, 1);
-    let va = recorded_calls::view(body, 0);
-    let vb = recorded_calls::view(body, 1);
-    let vc = recorded_calls::view(body, 2);
-    match recorded_calls::routine(body) {
-        3 => view::number(rank_real32::her2(u, p, a, va, b, vb, c, vc)),
-        11 => view::number(rank_real32::syr2k(u, t, p, a, va, b, vb, beta(body), c, vc)),
-        12 => view::number(rank_real32::her2k(
-            u,
-            t,
-            p,
-            a,
-            va,
-            b,
-            vb,
-            recorded_calls::scalar32(body, 2),
-            c,
-            vc,
-        )),
+    let va = view(body, 0);
+    let vb = view(body, 1);
+    let vc = view(body, target(body));
+    match routine(body) {
+        2 => number(rank_real32::her(u, scalar(body, 0), a, va, c, vc)),
+        3 => number(rank_real32::her2(u, p, a, va, b, vb, c, vc)),
+        11 => number(rank_real32::syr2k(u, t, p, a, va, b, vb, beta(body), c, vc)),
+        12 => number(rank_real32::her2k(u, t, p, a, va, b, vb, scalar(body, 2), c, vc)),
         _ => 255,
     }
 }

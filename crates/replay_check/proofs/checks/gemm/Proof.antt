@@ -1,5 +1,5 @@
 -- `gemm` meets its contract: the quick test is asked of the views of op(A) and op(B).
-use Rattle.replay_check.proofs.Words.{needs}
+use borrow.Author.Needs.{needs}
 use Rattle.replay_check.proofs.checks.gemm.Statement.{statement}
 use Rattle.replay_check.proofs.checks.gemm.Tie as tie
 

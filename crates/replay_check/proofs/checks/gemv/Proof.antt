@@ -1,5 +1,5 @@
 -- `gemv` meets its contract: the quick test is asked of the view of op(A).
-use Rattle.replay_check.proofs.Words.{needs}
+use borrow.Author.Needs.{needs}
 use Rattle.replay_check.proofs.checks.gemv.Statement.{statement}
 use Rattle.replay_check.proofs.checks.gemv.Tie as tie
 

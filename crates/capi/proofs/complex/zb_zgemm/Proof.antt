@@ -1,9 +1,0 @@
-use Rattle.capi.proofs.Words.{needs, complex, called, refused, view-is}
-use Rattle.capi.proofs.complex.zb_zgemm.Statement.{statement}
-use Rattle.capi.proofs.complex.zb_zgemm.Tie as tie
-
-pub zb-zgemm-spec : {M : Type 1} → statement M
-zb-zgemm-spec = tie.close (tie.spec
-    (λ c κs. tt) (λ c κs. tt) (λ c κs. tt) (λ c κs. tt) (λ c κs. tt) (λ c κs. tt) (λ c κs. tt) (λ c κs. tt) (λ c κs. tt) (λ c κs. tt) (λ c. search needs)
-    (λ c. called complex _ _ _ _ _ (c .before .before .before .before .before .before .before .before .is-trans-trans .ensures) (c .before .before .before .before .before .before .before .if1 .taken) _ _ _ (rw (c .before .before .before .before .before .before .trans-of .ensures, c .before .before .before .before .before .trans-of2 .ensures, view-is _ _ _ _ _ _ (c .before .before .before .before .before .before .before .before .before .before .before .before .before .before .before .fits .ars) (c .before .before .before .before .before .before .before .before .before .before .before .before .before .before .before .fits .acs) (c .before .before .before .before .before .before .before .before .before .before .before .view-of .ensures), view-is _ _ _ _ _ _ (c .before .before .before .before .before .before .before .before .before .before .before .before .before .before .before .fits .brs) (c .before .before .before .before .before .before .before .before .before .before .before .before .before .before .before .fits .bcs) (c .before .before .before .before .before .before .before .before .before .before .view-of2 .ensures), view-is _ _ _ _ _ _ (c .before .before .before .before .before .before .before .before .before .before .before .before .before .before .before .fits .crs) (c .before .before .before .before .before .before .before .before .before .before .before .before .before .before .before .fits .ccs) (c .before .before .before .before .before .before .before .before .before .view-of3 .ensures)) at (c .before .before .before .gemm .ensures)) (c .number .ensures))
-    (λ c. refused complex _ _ _ _ _ (c .before .before .before .is-trans-trans .ensures) (c .before .before .if1 .left) _ _ (rw (view-is _ _ _ _ _ _ (c .before .before .before .before .before .before .before .before .before .before .fits .ars) (c .before .before .before .before .before .before .before .before .before .before .fits .acs) (c .before .before .before .before .before .before .view-of .ensures), view-is _ _ _ _ _ _ (c .before .before .before .before .before .before .before .before .before .before .fits .brs) (c .before .before .before .before .before .before .before .before .before .before .fits .bcs) (c .before .before .before .before .before .view-of2 .ensures), view-is _ _ _ _ _ _ (c .before .before .before .before .before .before .before .before .before .before .fits .crs) (c .before .before .before .before .before .before .before .before .before .before .fits .ccs) (c .before .before .before .before .view-of3 .ensures)) at (c .before .refuse3 .ensures)) (c .number2 .ensures)))

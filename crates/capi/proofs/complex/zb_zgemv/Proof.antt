@@ -1,9 +1,0 @@
-use Rattle.capi.proofs.Words.{needs, complex, called, refused, view-is}
-use Rattle.capi.proofs.complex.zb_zgemv.Statement.{statement}
-use Rattle.capi.proofs.complex.zb_zgemv.Tie as tie
-
-pub zb-zgemv-spec : {M : Type 1} → statement M
-zb-zgemv-spec = tie.close (tie.spec
-    (λ c κs. tt) (λ c κs. tt) (λ c κs. tt) (λ c κs. tt) (λ c κs. tt) (λ c κs. tt) (λ c κs. tt) (λ c κs. tt) (λ c κs. tt) (λ c. search needs)
-    (λ c. called complex _ _ _ _ _ (c .before .before .before .before .before .before .before .is-trans .ensures) (c .before .before .before .before .before .before .if1 .taken) _ _ _ (rw (c .before .before .before .before .before .trans-of .ensures, view-is _ _ _ _ _ _ (c .before .before .before .before .before .before .before .before .before .before .before .before .before .before .fits .ars) (c .before .before .before .before .before .before .before .before .before .before .before .before .before .before .fits .acs) (c .before .before .before .before .before .before .before .before .before .before .view-of .ensures), view-is _ _ _ _ _ _ (c .before .before .before .before .before .before .before .before .before .before .before .before .before .before .fits .xrs) (c .before .before .before .before .before .before .before .before .before .before .before .before .before .before .fits .xcs) (c .before .before .before .before .before .before .before .before .before .view-of2 .ensures), view-is _ _ _ _ _ _ (c .before .before .before .before .before .before .before .before .before .before .before .before .before .before .fits .yrs) (c .before .before .before .before .before .before .before .before .before .before .before .before .before .before .fits .ycs) (c .before .before .before .before .before .before .before .before .view-of3 .ensures)) at (c .before .before .before .gemv .ensures)) (c .number .ensures))
-    (λ c. refused complex _ _ _ _ _ (c .before .before .before .is-trans .ensures) (c .before .before .if1 .left) _ _ (rw (view-is _ _ _ _ _ _ (c .before .before .before .before .before .before .before .before .before .before .fits .ars) (c .before .before .before .before .before .before .before .before .before .before .fits .acs) (c .before .before .before .before .before .before .view-of .ensures), view-is _ _ _ _ _ _ (c .before .before .before .before .before .before .before .before .before .before .fits .xrs) (c .before .before .before .before .before .before .before .before .before .before .fits .xcs) (c .before .before .before .before .before .view-of2 .ensures), view-is _ _ _ _ _ _ (c .before .before .before .before .before .before .before .before .before .before .fits .yrs) (c .before .before .before .before .before .before .before .before .before .before .fits .ycs) (c .before .before .before .before .view-of3 .ensures)) at (c .before .refuse3 .ensures)) (c .number2 .ensures)))

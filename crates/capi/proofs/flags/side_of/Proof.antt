@@ -1,7 +1,0 @@
-use Rattle.capi.proofs.Words.{sideOf, side-else}
-use Rattle.capi.proofs.flags.side_of.Statement.{statement}
-use Rattle.capi.proofs.flags.side_of.Tie as tie
-
-pub side-of-spec : {M : Type 1} → statement M
-unfolding sideOf
-side-of-spec = tie.close (tie.spec (λ c. rw (c .match .keys1)) (λ c. side-else _ (c .match .rest .1)))

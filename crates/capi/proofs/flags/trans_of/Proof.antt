@@ -1,7 +1,0 @@
-use Rattle.capi.proofs.Words.{transOf, trans-else}
-use Rattle.capi.proofs.flags.trans_of.Statement.{statement}
-use Rattle.capi.proofs.flags.trans_of.Tie as tie
-
-pub trans-of-spec : {M : Type 1} → statement M
-unfolding transOf
-trans-of-spec = tie.close (tie.spec (λ c. rw (c .match .keys1)) (λ c. rw (c .match .keys2)) (λ c. trans-else _ (c .match .rest .0 .1) (c .match .rest .1)))

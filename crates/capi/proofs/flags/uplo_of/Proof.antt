@@ -1,7 +1,0 @@
-use Rattle.capi.proofs.Words.{upLoOf, uplo-else}
-use Rattle.capi.proofs.flags.uplo_of.Statement.{statement}
-use Rattle.capi.proofs.flags.uplo_of.Tie as tie
-
-pub uplo-of-spec : {M : Type 1} → statement M
-unfolding upLoOf
-uplo-of-spec = tie.close (tie.spec (λ c. rw (c .match .keys1)) (λ c. uplo-else _ (c .match .rest .1)))

@@ -1,9 +1,0 @@
-use Rattle.capi.proofs.Words.{needs, real32, called, refused, view-is}
-use Rattle.capi.proofs.real32.zb_strmv.Statement.{statement}
-use Rattle.capi.proofs.real32.zb_strmv.Tie as tie
-
-pub zb-strmv-spec : {M : Type 1} → statement M
-zb-strmv-spec = tie.close (tie.spec
-    (λ c κs. tt) (λ c κs. tt) (λ c κs. tt) (λ c κs. tt) (λ c κs. tt) (λ c κs. tt) (λ c κs. tt) (λ c κs. tt) (λ c κs. tt) (λ c κs. tt) (λ c. search needs)
-    (λ c. called real32 _ _ _ _ _ (c .before .before .before .before .before .before .before .before .before .is-uplo-trans-diag .ensures) (c .before .before .before .before .before .before .before .before .if1 .taken) _ _ _ (rw (c .before .before .before .before .before .before .before .uplo-of .ensures, c .before .before .before .before .before .before .trans-of .ensures, c .before .before .before .before .before .diag-of .ensures, view-is _ _ _ _ _ _ (c .before .before .before .before .before .before .before .before .before .before .before .before .before .before .fits .ars) (c .before .before .before .before .before .before .before .before .before .before .before .before .before .before .fits .acs) (c .before .before .before .before .before .before .before .before .before .before .before .view-of .ensures), view-is _ _ _ _ _ _ (c .before .before .before .before .before .before .before .before .before .before .before .before .before .before .fits .xrs) (c .before .before .before .before .before .before .before .before .before .before .before .before .before .before .fits .xcs) (c .before .before .before .before .before .before .before .before .before .before .view-of2 .ensures)) at (c .before .before .before .trmv .ensures)) (c .number .ensures))
-    (λ c. refused real32 _ _ _ _ _ (c .before .before .before .is-uplo-trans-diag .ensures) (c .before .before .if1 .left) _ _ (rw (view-is _ _ _ _ _ _ (c .before .before .before .before .before .before .before .before .fits .ars) (c .before .before .before .before .before .before .before .before .fits .acs) (c .before .before .before .before .before .view-of .ensures), view-is _ _ _ _ _ _ (c .before .before .before .before .before .before .before .before .fits .xrs) (c .before .before .before .before .before .before .before .before .fits .xcs) (c .before .before .before .before .view-of2 .ensures)) at (c .before .refuse2 .ensures)) (c .number2 .ensures)))

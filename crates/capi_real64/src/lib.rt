@@ -1,0 +1,641 @@
+// The C interface for f64: zb_dgemm and the like.
+
+ghost use Rattle.number.specs.Kind.{real64};
+ghost use Rattle.slab.specs.Elem.{lent};
+ghost use Rattle.capi_flags.specs.Interface.{gemmC, gemvC, hemmC, hemvC, her2C, her2kC, herC, herkC, symmC, syr2kC, syrkC, trmmC, trmvC, trsmC, trsvC, Returns};
+ghost use Rattle.view.specs.Place.{viewOf};
+use call_check::refuse2;
+use call_check::refuse3;
+use capi_flags::diag_of;
+use capi_flags::is_side_uplo;
+use capi_flags::is_side_uplo_trans_diag;
+use capi_flags::is_trans;
+use capi_flags::is_trans_trans;
+use capi_flags::is_uplo;
+use capi_flags::is_uplo_trans;
+use capi_flags::is_uplo_trans_diag;
+use capi_flags::side_of;
+use capi_flags::trans_of;
+use capi_flags::uplo_of;
+use number::Real64;
+use view::number;
+use view::view_of;
+
+// y ← alpha op(A) x + beta y
+#[no_mangle]
+pub extern "C" fn zb_dgemv(
+    trans: u8,
+    alpha: f64,
+    a: &[f64],
+    astart: usize,
+    arows: usize,
+    acols: usize,
+    ars: i64,
+    acs: i64,
+    x: &[f64],
+    xstart: usize,
+    xrows: usize,
+    xcols: usize,
+    xrs: i64,
+    xcs: i64,
+    beta: f64,
+    y: &mut [f64],
+    ystart: usize,
+    yrows: usize,
+    ycols: usize,
+    yrs: i64,
+    ycs: i64,
+) -> u8
+    ensures { λ r. ⌜ Returns real64 (gemvC real64 trans alpha (lent real64 (now (a .entry)) (viewOf astart arows acols ars acs)) (lent real64 (now (x .entry)) (viewOf xstart xrows xcols xrs xcs)) beta (lent real64 (now (y .entry)) (viewOf ystart yrows ycols yrs ycs))) r (now (y .exit)) ⌝ }
+{
+    let va = view_of(astart, arows, acols, ars, acs);
+    let vx = view_of(xstart, xrows, xcols, xrs, xcs);
+    let vy = view_of(ystart, yrows, ycols, yrs, ycs);
+    if is_trans(trans) {
+        number(product_real64::gemv(
+            trans_of(trans),
+            Real64(alpha),
+            a,
+            va,
+            x,
+            vx,
+            Real64(beta),
+            y,
+            vy,
+        ))
+    } else {
+        number(refuse3(va, a.len(), vx, x.len(), vy, y.len()))
+    }
+}
+
+// y ← alpha A x + beta y, A Hermitian
+#[no_mangle]
+pub extern "C" fn zb_dhemv(
+    uplo: u8,
+    alpha: f64,
+    a: &[f64],
+    astart: usize,
+    arows: usize,
+    acols: usize,
+    ars: i64,
+    acs: i64,
+    x: &[f64],
+    xstart: usize,
+    xrows: usize,
+    xcols: usize,
+    xrs: i64,
+    xcs: i64,
+    beta: f64,
+    y: &mut [f64],
+    ystart: usize,
+    yrows: usize,
+    ycols: usize,
+    yrs: i64,
+    ycs: i64,
+) -> u8
+    ensures { λ r. ⌜ Returns real64 (hemvC real64 uplo alpha (lent real64 (now (a .entry)) (viewOf astart arows acols ars acs)) (lent real64 (now (x .entry)) (viewOf xstart xrows xcols xrs xcs)) beta (lent real64 (now (y .entry)) (viewOf ystart yrows ycols yrs ycs))) r (now (y .exit)) ⌝ }
+{
+    let va = view_of(astart, arows, acols, ars, acs);
+    let vx = view_of(xstart, xrows, xcols, xrs, xcs);
+    let vy = view_of(ystart, yrows, ycols, yrs, ycs);
+    if is_uplo(uplo) {
+        number(product_real64::hemv(
+            uplo_of(uplo),
+            Real64(alpha),
+            a,
+            va,
+            x,
+            vx,
+            Real64(beta),
+            y,
+            vy,
+        ))
+    } else {
+        number(refuse3(va, a.len(), vx, x.len(), vy, y.len()))
+    }
+}
+
+// C ← alpha op(A) op(B) + beta C
+#[no_mangle]
+pub extern "C" fn zb_dgemm(
+    ta: u8,
+    tb: u8,
+    alpha: f64,
+    a: &[f64],
+    astart: usize,
+    arows: usize,
+    acols: usize,
+    ars: i64,
+    acs: i64,
+    b: &[f64],
+    bstart: usize,
+    brows: usize,
+    bcols: usize,
+    brs: i64,
+    bcs: i64,
+    beta: f64,
+    c: &mut [f64],
+    cstart: usize,
+    crows: usize,
+    ccols: usize,
+    crs: i64,
+    ccs: i64,
+) -> u8
+    ensures { λ r. ⌜ Returns real64 (gemmC real64 ta tb alpha (lent real64 (now (a .entry)) (viewOf astart arows acols ars acs)) (lent real64 (now (b .entry)) (viewOf bstart brows bcols brs bcs)) beta (lent real64 (now (c .entry)) (viewOf cstart crows ccols crs ccs))) r (now (c .exit)) ⌝ }
+{
+    let va = view_of(astart, arows, acols, ars, acs);
+    let vb = view_of(bstart, brows, bcols, brs, bcs);
+    let vc = view_of(cstart, crows, ccols, crs, ccs);
+    if is_trans_trans(ta, tb) {
+        number(product_real64::gemm(
+            trans_of(ta),
+            trans_of(tb),
+            Real64(alpha),
+            a,
+            va,
+            b,
+            vb,
+            Real64(beta),
+            c,
+            vc,
+        ))
+    } else {
+        number(refuse3(va, a.len(), vb, b.len(), vc, c.len()))
+    }
+}
+
+// C ← alpha A B + beta C or alpha B A + beta C, A symmetric
+#[no_mangle]
+pub extern "C" fn zb_dsymm(
+    side: u8,
+    uplo: u8,
+    alpha: f64,
+    a: &[f64],
+    astart: usize,
+    arows: usize,
+    acols: usize,
+    ars: i64,
+    acs: i64,
+    b: &[f64],
+    bstart: usize,
+    brows: usize,
+    bcols: usize,
+    brs: i64,
+    bcs: i64,
+    beta: f64,
+    c: &mut [f64],
+    cstart: usize,
+    crows: usize,
+    ccols: usize,
+    crs: i64,
+    ccs: i64,
+) -> u8
+    ensures { λ r. ⌜ Returns real64 (symmC real64 side uplo alpha (lent real64 (now (a .entry)) (viewOf astart arows acols ars acs)) (lent real64 (now (b .entry)) (viewOf bstart brows bcols brs bcs)) beta (lent real64 (now (c .entry)) (viewOf cstart crows ccols crs ccs))) r (now (c .exit)) ⌝ }
+{
+    let va = view_of(astart, arows, acols, ars, acs);
+    let vb = view_of(bstart, brows, bcols, brs, bcs);
+    let vc = view_of(cstart, crows, ccols, crs, ccs);
+    if is_side_uplo(side, uplo) {
+        number(product_real64::symm(
+            side_of(side),
+            uplo_of(uplo),
+            Real64(alpha),
+            a,
+            va,
+            b,
+            vb,
+            Real64(beta),
+            c,
+            vc,
+        ))
+    } else {
+        number(refuse3(va, a.len(), vb, b.len(), vc, c.len()))
+    }
+}
+
+// C ← alpha A B + beta C or alpha B A + beta C, A Hermitian
+#[no_mangle]
+pub extern "C" fn zb_dhemm(
+    side: u8,
+    uplo: u8,
+    alpha: f64,
+    a: &[f64],
+    astart: usize,
+    arows: usize,
+    acols: usize,
+    ars: i64,
+    acs: i64,
+    b: &[f64],
+    bstart: usize,
+    brows: usize,
+    bcols: usize,
+    brs: i64,
+    bcs: i64,
+    beta: f64,
+    c: &mut [f64],
+    cstart: usize,
+    crows: usize,
+    ccols: usize,
+    crs: i64,
+    ccs: i64,
+) -> u8
+    ensures { λ r. ⌜ Returns real64 (hemmC real64 side uplo alpha (lent real64 (now (a .entry)) (viewOf astart arows acols ars acs)) (lent real64 (now (b .entry)) (viewOf bstart brows bcols brs bcs)) beta (lent real64 (now (c .entry)) (viewOf cstart crows ccols crs ccs))) r (now (c .exit)) ⌝ }
+{
+    let va = view_of(astart, arows, acols, ars, acs);
+    let vb = view_of(bstart, brows, bcols, brs, bcs);
+    let vc = view_of(cstart, crows, ccols, crs, ccs);
+    if is_side_uplo(side, uplo) {
+        number(product_real64::hemm(
+            side_of(side),
+            uplo_of(uplo),
+            Real64(alpha),
+            a,
+            va,
+            b,
+            vb,
+            Real64(beta),
+            c,
+            vc,
+        ))
+    } else {
+        number(refuse3(va, a.len(), vb, b.len(), vc, c.len()))
+    }
+}
+
+// C ← alpha A Aᵀ + beta C or alpha Aᵀ A + beta C, in the named triangle
+#[no_mangle]
+pub extern "C" fn zb_dsyrk(
+    uplo: u8,
+    trans: u8,
+    alpha: f64,
+    a: &[f64],
+    astart: usize,
+    arows: usize,
+    acols: usize,
+    ars: i64,
+    acs: i64,
+    beta: f64,
+    c: &mut [f64],
+    cstart: usize,
+    crows: usize,
+    ccols: usize,
+    crs: i64,
+    ccs: i64,
+) -> u8
+    ensures { λ r. ⌜ Returns real64 (syrkC real64 uplo trans alpha (lent real64 (now (a .entry)) (viewOf astart arows acols ars acs)) beta (lent real64 (now (c .entry)) (viewOf cstart crows ccols crs ccs))) r (now (c .exit)) ⌝ }
+{
+    let va = view_of(astart, arows, acols, ars, acs);
+    let vc = view_of(cstart, crows, ccols, crs, ccs);
+    if is_uplo_trans(uplo, trans) {
+        number(product_real64::syrk(
+            uplo_of(uplo),
+            trans_of(trans),
+            Real64(alpha),
+            a,
+            va,
+            Real64(beta),
+            c,
+            vc,
+        ))
+    } else {
+        number(refuse2(va, a.len(), vc, c.len()))
+    }
+}
+
+// C ← alpha A Aᴴ + beta C or alpha Aᴴ A + beta C, in the named triangle, alpha and beta real
+#[no_mangle]
+pub extern "C" fn zb_dherk(
+    uplo: u8,
+    trans: u8,
+    alpha: f64,
+    a: &[f64],
+    astart: usize,
+    arows: usize,
+    acols: usize,
+    ars: i64,
+    acs: i64,
+    beta: f64,
+    c: &mut [f64],
+    cstart: usize,
+    crows: usize,
+    ccols: usize,
+    crs: i64,
+    ccs: i64,
+) -> u8
+    ensures { λ r. ⌜ Returns real64 (herkC real64 uplo trans alpha (lent real64 (now (a .entry)) (viewOf astart arows acols ars acs)) beta (lent real64 (now (c .entry)) (viewOf cstart crows ccols crs ccs))) r (now (c .exit)) ⌝ }
+{
+    let va = view_of(astart, arows, acols, ars, acs);
+    let vc = view_of(cstart, crows, ccols, crs, ccs);
+    if is_uplo_trans(uplo, trans) {
+        number(product_real64::herk(uplo_of(uplo), trans_of(trans), alpha, a, va, beta, c, vc))
+    } else {
+        number(refuse2(va, a.len(), vc, c.len()))
+    }
+}
+
+// A ← A + alpha x xᴴ, in the named triangle, alpha real
+#[no_mangle]
+pub extern "C" fn zb_dher(
+    uplo: u8,
+    alpha: f64,
+    x: &[f64],
+    xstart: usize,
+    xrows: usize,
+    xcols: usize,
+    xrs: i64,
+    xcs: i64,
+    a: &mut [f64],
+    astart: usize,
+    arows: usize,
+    acols: usize,
+    ars: i64,
+    acs: i64,
+) -> u8
+    ensures { λ r. ⌜ Returns real64 (herC real64 uplo alpha (lent real64 (now (x .entry)) (viewOf xstart xrows xcols xrs xcs)) (lent real64 (now (a .entry)) (viewOf astart arows acols ars acs))) r (now (a .exit)) ⌝ }
+{
+    let vx = view_of(xstart, xrows, xcols, xrs, xcs);
+    let va = view_of(astart, arows, acols, ars, acs);
+    if is_uplo(uplo) {
+        number(rank_real64::her(uplo_of(uplo), alpha, x, vx, a, va))
+    } else {
+        number(refuse2(vx, x.len(), va, a.len()))
+    }
+}
+
+// A ← A + alpha x yᴴ + conj(alpha) y xᴴ, in the named triangle
+#[no_mangle]
+pub extern "C" fn zb_dher2(
+    uplo: u8,
+    alpha: f64,
+    x: &[f64],
+    xstart: usize,
+    xrows: usize,
+    xcols: usize,
+    xrs: i64,
+    xcs: i64,
+    y: &[f64],
+    ystart: usize,
+    yrows: usize,
+    ycols: usize,
+    yrs: i64,
+    ycs: i64,
+    a: &mut [f64],
+    astart: usize,
+    arows: usize,
+    acols: usize,
+    ars: i64,
+    acs: i64,
+) -> u8
+    ensures { λ r. ⌜ Returns real64 (her2C real64 uplo alpha (lent real64 (now (x .entry)) (viewOf xstart xrows xcols xrs xcs)) (lent real64 (now (y .entry)) (viewOf ystart yrows ycols yrs ycs)) (lent real64 (now (a .entry)) (viewOf astart arows acols ars acs))) r (now (a .exit)) ⌝ }
+{
+    let vx = view_of(xstart, xrows, xcols, xrs, xcs);
+    let vy = view_of(ystart, yrows, ycols, yrs, ycs);
+    let va = view_of(astart, arows, acols, ars, acs);
+    if is_uplo(uplo) {
+        number(rank_real64::her2(uplo_of(uplo), Real64(alpha), x, vx, y, vy, a, va))
+    } else {
+        number(refuse3(vx, x.len(), vy, y.len(), va, a.len()))
+    }
+}
+
+// C ← alpha (A Bᵀ + B Aᵀ) + beta C or alpha (Aᵀ B + Bᵀ A) + beta C, in the named triangle
+#[no_mangle]
+pub extern "C" fn zb_dsyr2k(
+    uplo: u8,
+    trans: u8,
+    alpha: f64,
+    a: &[f64],
+    astart: usize,
+    arows: usize,
+    acols: usize,
+    ars: i64,
+    acs: i64,
+    b: &[f64],
+    bstart: usize,
+    brows: usize,
+    bcols: usize,
+    brs: i64,
+    bcs: i64,
+    beta: f64,
+    c: &mut [f64],
+    cstart: usize,
+    crows: usize,
+    ccols: usize,
+    crs: i64,
+    ccs: i64,
+) -> u8
+    ensures { λ r. ⌜ Returns real64 (syr2kC real64 uplo trans alpha (lent real64 (now (a .entry)) (viewOf astart arows acols ars acs)) (lent real64 (now (b .entry)) (viewOf bstart brows bcols brs bcs)) beta (lent real64 (now (c .entry)) (viewOf cstart crows ccols crs ccs))) r (now (c .exit)) ⌝ }
+{
+    let va = view_of(astart, arows, acols, ars, acs);
+    let vb = view_of(bstart, brows, bcols, brs, bcs);
+    let vc = view_of(cstart, crows, ccols, crs, ccs);
+    if is_uplo_trans(uplo, trans) {
+        number(rank_real64::syr2k(
+            uplo_of(uplo),
+            trans_of(trans),
+            Real64(alpha),
+            a,
+            va,
+            b,
+            vb,
+            Real64(beta),
+            c,
+            vc,
+        ))
+    } else {
+        number(refuse3(va, a.len(), vb, b.len(), vc, c.len()))
+    }
+}
+
+// C ← alpha A Bᴴ + conj(alpha) B Aᴴ + beta C or alpha Aᴴ B + conj(alpha) Bᴴ A + beta C, in the named triangle, beta real
+#[no_mangle]
+pub extern "C" fn zb_dher2k(
+    uplo: u8,
+    trans: u8,
+    alpha: f64,
+    a: &[f64],
+    astart: usize,
+    arows: usize,
+    acols: usize,
+    ars: i64,
+    acs: i64,
+    b: &[f64],
+    bstart: usize,
+    brows: usize,
+    bcols: usize,
+    brs: i64,
+    bcs: i64,
+    beta: f64,
+    c: &mut [f64],
+    cstart: usize,
+    crows: usize,
+    ccols: usize,
+    crs: i64,
+    ccs: i64,
+) -> u8
+    ensures { λ r. ⌜ Returns real64 (her2kC real64 uplo trans alpha (lent real64 (now (a .entry)) (viewOf astart arows acols ars acs)) (lent real64 (now (b .entry)) (viewOf bstart brows bcols brs bcs)) beta (lent real64 (now (c .entry)) (viewOf cstart crows ccols crs ccs))) r (now (c .exit)) ⌝ }
+{
+    let va = view_of(astart, arows, acols, ars, acs);
+    let vb = view_of(bstart, brows, bcols, brs, bcs);
+    let vc = view_of(cstart, crows, ccols, crs, ccs);
+    if is_uplo_trans(uplo, trans) {
+        number(rank_real64::her2k(
+            uplo_of(uplo),
+            trans_of(trans),
+            Real64(alpha),
+            a,
+            va,
+            b,
+            vb,
+            beta,
+            c,
+            vc,
+        ))
+    } else {
+        number(refuse3(va, a.len(), vb, b.len(), vc, c.len()))
+    }
+}
+
+// x ← op(A) x, A triangular
+#[no_mangle]
+pub extern "C" fn zb_dtrmv(
+    uplo: u8,
+    trans: u8,
+    diag: u8,
+    a: &[f64],
+    astart: usize,
+    arows: usize,
+    acols: usize,
+    ars: i64,
+    acs: i64,
+    x: &mut [f64],
+    xstart: usize,
+    xrows: usize,
+    xcols: usize,
+    xrs: i64,
+    xcs: i64,
+) -> u8
+    ensures { λ r. ⌜ Returns real64 (trmvC real64 uplo trans diag (lent real64 (now (a .entry)) (viewOf astart arows acols ars acs)) (lent real64 (now (x .entry)) (viewOf xstart xrows xcols xrs xcs))) r (now (x .exit)) ⌝ }
+{
+    let va = view_of(astart, arows, acols, ars, acs);
+    let vx = view_of(xstart, xrows, xcols, xrs, xcs);
+    if is_uplo_trans_diag(uplo, trans, diag) {
+        number(triangle_real64::trmv(uplo_of(uplo), trans_of(trans), diag_of(diag), a, va, x, vx))
+    } else {
+        number(refuse2(va, a.len(), vx, x.len()))
+    }
+}
+
+// op(A) x = b solved, x holding b, A triangular
+#[no_mangle]
+pub extern "C" fn zb_dtrsv(
+    uplo: u8,
+    trans: u8,
+    diag: u8,
+    a: &[f64],
+    astart: usize,
+    arows: usize,
+    acols: usize,
+    ars: i64,
+    acs: i64,
+    x: &mut [f64],
+    xstart: usize,
+    xrows: usize,
+    xcols: usize,
+    xrs: i64,
+    xcs: i64,
+) -> u8
+    ensures { λ r. ⌜ Returns real64 (trsvC real64 uplo trans diag (lent real64 (now (a .entry)) (viewOf astart arows acols ars acs)) (lent real64 (now (x .entry)) (viewOf xstart xrows xcols xrs xcs))) r (now (x .exit)) ⌝ }
+{
+    let va = view_of(astart, arows, acols, ars, acs);
+    let vx = view_of(xstart, xrows, xcols, xrs, xcs);
+    if is_uplo_trans_diag(uplo, trans, diag) {
+        number(triangle_real64::trsv(uplo_of(uplo), trans_of(trans), diag_of(diag), a, va, x, vx))
+    } else {
+        number(refuse2(va, a.len(), vx, x.len()))
+    }
+}
+
+// B ← alpha op(A) B or alpha B op(A), A triangular
+#[no_mangle]
+pub extern "C" fn zb_dtrmm(
+    side: u8,
+    uplo: u8,
+    trans: u8,
+    diag: u8,
+    alpha: f64,
+    a: &[f64],
+    astart: usize,
+    arows: usize,
+    acols: usize,
+    ars: i64,
+    acs: i64,
+    b: &mut [f64],
+    bstart: usize,
+    brows: usize,
+    bcols: usize,
+    brs: i64,
+    bcs: i64,
+) -> u8
+    ensures { λ r. ⌜ Returns real64 (trmmC real64 side uplo trans diag alpha (lent real64 (now (a .entry)) (viewOf astart arows acols ars acs)) (lent real64 (now (b .entry)) (viewOf bstart brows bcols brs bcs))) r (now (b .exit)) ⌝ }
+{
+    let va = view_of(astart, arows, acols, ars, acs);
+    let vb = view_of(bstart, brows, bcols, brs, bcs);
+    if is_side_uplo_trans_diag(side, uplo, trans, diag) {
+        number(triangle_real64::trmm(
+            side_of(side),
+            uplo_of(uplo),
+            trans_of(trans),
+            diag_of(diag),
+            Real64(alpha),
+            a,
+            va,
+            b,
+            vb,
+        ))
+    } else {
+        number(refuse2(va, a.len(), vb, b.len()))
+    }
+}
+
+// op(A) X = alpha B or X op(A) = alpha B solved in B's place, A triangular
+#[no_mangle]
+pub extern "C" fn zb_dtrsm(
+    side: u8,
+    uplo: u8,
+    trans: u8,
+    diag: u8,
+    alpha: f64,
+    a: &[f64],
+    astart: usize,
+    arows: usize,
+    acols: usize,
+    ars: i64,
+    acs: i64,
+    b: &mut [f64],
+    bstart: usize,
+    brows: usize,
+    bcols: usize,
+    brs: i64,
+    bcs: i64,
+) -> u8
+    ensures { λ r. ⌜ Returns real64 (trsmC real64 side uplo trans diag alpha (lent real64 (now (a .entry)) (viewOf astart arows acols ars acs)) (lent real64 (now (b .entry)) (viewOf bstart brows bcols brs bcs))) r (now (b .exit)) ⌝ }
+{
+    let va = view_of(astart, arows, acols, ars, acs);
+    let vb = view_of(bstart, brows, bcols, brs, bcs);
+    if is_side_uplo_trans_diag(side, uplo, trans, diag) {
+        number(triangle_real64::trsm(
+            side_of(side),
+            uplo_of(uplo),
+            trans_of(trans),
+            diag_of(diag),
+            Real64(alpha),
+            a,
+            va,
+            b,
+            vb,
+        ))
+    } else {
+        number(refuse2(va, a.len(), vb, b.len()))
+    }
+}
