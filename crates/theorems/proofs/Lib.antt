@@ -4,16 +4,12 @@
 -- AgreeKinds has the theorems for the three kinds.
 pub mod Table
 pub mod Points
+pub mod Respects
+pub mod Triangles
 pub mod Rings
 pub mod IntegerRings
-pub mod ExactSums
-pub mod ExactReadings
-pub mod ExactTargets
 pub mod ExactBasis
-pub mod ExactEngine
-pub mod ExactProducts
-pub mod ExactRank
-pub mod ExactTriangles
+pub mod ExactRoutines
 pub mod ExactInstances
 pub mod ExactWorked
 pub mod AgreeSums
