@@ -10,6 +10,7 @@ use lib.Dec.{leb, eqb}
 use borrow.Author.Tests.{eq-eqb, ne-eqb}
 use Rattle.number.specs.Kind.{Kind, Same, Holds, Finite}
 use Rattle.number.specs.Laws.{Laws}
+use Rattle.view.specs.declared.View.{View}
 use Rattle.view.specs.declared.Trans.{Trans}
 use Rattle.view.specs.declared.Trans.the-variants.{NoTrans, Trans as Transposed, ConjTrans}
 use Rattle.view.specs.declared.UpLo.{UpLo}
@@ -18,6 +19,7 @@ use Rattle.view.specs.declared.Diag.{Diag}
 use Rattle.view.specs.declared.Diag.the-variants.{NonUnit, Unit}
 use Rattle.view.specs.declared.Side.{Side}
 use Rattle.view.specs.declared.Side.the-variants.{Left, Right}
+use Rattle.view.specs.Checks.{orderOf}
 use Rattle.view.specs.Triangle.{inTriangle}
 use Rattle.view.proofs.AnyLaws.{and-both, and-left, and-right, clash}
 use Rattle.slab.specs.Update.{Mask}
@@ -248,6 +250,10 @@ module _ (side : Side) (uplo : UpLo) (t : Trans) (diag : Diag) where
 abbrev pub unknownIn : Side → ℕ → ℕ → ℕ
 unknownIn Left i j = i
 unknownIn Right i j = j
+
+pub unknown-lt : (side : Side) (v : View) (i j : ℕ) → i < v .rows → j < v .cols → unknownIn side i j < orderOf side v
+unknown-lt Left v i j p q = p
+unknown-lt Right v i j p q = q
 
 abbrev pub beside : (K : Kind) → Side → Matrix K → ℕ → ℕ → ℕ → K .Elem
 beside K Left r i j p = r p j
