@@ -11,11 +11,10 @@ pub mod IntegerRings
 pub mod ExactBasis
 pub mod ExactRoutines
 pub mod ExactInstances
-pub mod ExactWorked
 pub mod AgreeCalls
 pub mod AgreeProducts
 pub mod AgreeTriangles
 pub mod AgreeSolves
 pub mod AgreeKinds
-pub mod AgreeExamples
+pub mod Examples
 pub mod Calls
