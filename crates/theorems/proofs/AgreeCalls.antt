@@ -30,7 +30,7 @@ use Rattle.view.proofs.JudgeLaws.{Each, small, judge-passed, passed-judge}
 use Rattle.view.proofs.OverlapLaws.{overlaps-is, no-meeting}
 use Rattle.view.proofs.PlaceLaws.{inside→fits}
 use Rattle.view.proofs.VectorLaws.{column-index, coord-sum, column-accepted, column-no-overlap}
-use Rattle.slab.specs.Elem.{Lent, lent}
+use Rattle.slab.specs.Elem.{Lent}
 use Rattle.slab.specs.Update.{Mask, Change, everywhere, update}
 use Rattle.slab.proofs.UpdateLaws.{update-shown}
 use Rattle.blas.specs.Matrix.{Matrix, matrix, sum, sumOver}
@@ -83,7 +83,8 @@ module _ {K : Kind} {Call : Type 0} (f : Routine K Call) where
     pub shapes-same : (v v' : View) (o : Call) → SameShape v v' → f .shapes v o ≡ f .shapes v' o
     pub work-same : (v v' : View) (a a' : Matrix K) (o : Call) → SameShape v v' → f .shapes v o ≡ true → Below (Same K) names (v .rows) (v .cols) a a'
         → SameOutcome K (work v a o) (work v' a' o)
-    pub shot : (v : View) (a : Matrix K) → Form v → v .rows ≤ limit → v .cols ≤ limit → Fit K names (v .rows) (v .cols) a → (r c : ℕ) → Named names v r c
+    pub shot : (v : View) (a : Matrix K) → Form v → v .rows ≤ limit → v .cols ≤ limit → Fit K names (v .rows) (v .cols) a → (r c : ℕ)
+        → Named names v r c
         → Shot work names v a r c
 
 -- ---- the same answer
@@ -124,7 +125,8 @@ module _ {K : Kind} (L : Laws K) {Call : Type 0} (f : Routine K Call) (work : Wo
   }
 
   -- the call that tells is not refused
-  told : (a : Lent K) → Coefficient K Form names a → (o : Call) → Each (f .others o) → f .shapes (a .view) o ≡ true → overlaps (f .target o) ≡ false → checked f a o ≡ Done
+  told : (a : Lent K) → Coefficient K Form names a → (o : Call) → Each (f .others o) → f .shapes (a .view) o ≡ true → overlaps (f .target o) ≡ false
+      → checked f a o ≡ Done
   told a h o each shape apart =
       let s = small (a .view) (h .accepted .not-too-large) in
       passed-judge _ _ _ (record {
@@ -169,7 +171,8 @@ pub record Picks (K : Kind) (n j : ℕ) (e : ℕ → K .Elem) : Type 0 where
   pub other : (p : ℕ) → p < n → (p ≡ j → ⊥) → Same K (e p) (K .zero)
 
 module _ (K : Kind) (L : Laws K) where
-  over-zero : (n : ℕ) (admits : ℕ → Bool) (f : ℕ → K .Elem) → ((p : ℕ) → p < n → admits p ≡ true → Same K (f p) (K .zero)) → Same K (sumOver K n admits f) (K .zero)
+  over-zero : (n : ℕ) (admits : ℕ → Bool) (f : ℕ → K .Elem) → ((p : ℕ) → p < n → admits p ≡ true → Same K (f p) (K .zero))
+      → Same K (sumOver K n admits f) (K .zero)
   unfolding sumOver
   over-zero zero admits f h = L .same-refl (K .zero)
   over-zero (suc n) admits f h = at (admits n) (h n (omega arith)) (over-zero n admits f (λ p l. h p (omega arith)))
@@ -189,7 +192,8 @@ module _ (K : Kind) (L : Laws K) where
       none j h = omega arith
   over-one (suc n) j admits f x l m v e z = at (ℕ-discrete n j) (λ q. over-one n j admits f x q m v e (λ p r. z p (omega arith)))
     where
-      skip : (n ≡ j → ⊥) → (b : Bool) → admits n ≡ b → Same K (sumOver K n admits f) x → Same K (cond b (K .add (sumOver K n admits f) (f n)) (sumOver K n admits f)) x
+      skip : (n ≡ j → ⊥) → (b : Bool) → admits n ≡ b → Same K (sumOver K n admits f) x
+          → Same K (cond b (K .add (sumOver K n admits f) (f n)) (sumOver K n admits f)) x
       skip q true a h = L .same-trans (L .add-cong h (z n (omega arith) a q)) (L .add-zero v)
       skip q false a h = h
 
@@ -310,7 +314,8 @@ colAt Left q = 0
 colAt Right q = q
 
 -- an unknown after an update of the whole line
-pub strip-shown : (K : Kind) → Laws K → (side : Side) (v : View) (n : ℕ) → Strip side v n → (s : List (K .Cell)) → K .count s ≡ n → (u : Change K) (q : ℕ) → q < n
+pub strip-shown : (K : Kind) → Laws K → (side : Side) (v : View) (n : ℕ) → Strip side v n → (s : List (K .Cell)) → K .count s ≡ n
+    → (u : Change K) (q : ℕ) → q < n
     → unknown K side (update K v everywhere u s) v q 0 ≡ u (rowAt side q) (colAt side q) (unknown K side s v q 0)
 strip-shown K L side v n w s e u q h = at side (subst (λ (m : ℕ). q < m) (sym (w .order)) h) (subst (λ (m : ℕ). 0 < m) (sym (w .one-line)) (lit≤ tt))
   where

@@ -3,7 +3,7 @@
 use Prim.Native.Nat.{ℕ, _≤_, _<_}
 use mathlib.Core.Bool.{Bool, true, false, cond, _&&_}
 use mathlib.Core.List.{List, [], _∷_}
-use mathlib.Core.Path.{_≡_, refl, sym, ap, subst, _∙_}
+use mathlib.Core.Path.{_≡_, refl, sym, subst, _∙_}
 use native.Mathlib.Nat.{mul-zero}
 use native.Mathlib.Omega.{arith}
 use lib.Dec.{eqb}
@@ -35,11 +35,11 @@ use Rattle.blas.specs.Gemm.{gemm}
 use Rattle.blas.specs.Hemv.{hemv}
 use Rattle.blas.specs.Symm.{symm}
 use Rattle.blas.specs.Hemm.{hemm}
-use Rattle.theorems.specs.Agreement.{General, Square, SameShape, Named, wholeMatrix, triangle, Others, run, Sees, ProductsSee}
+use Rattle.theorems.specs.Agreement.{General, Square, SameShape, wholeMatrix, triangle, Others, run, Sees, ProductsSee}
 use Rattle.theorems.specs.ExactProducts.{onSide}
 use Rattle.theorems.proofs.Respects.{Below, Fit, same-respected, sum-respects, Reading, Faithful, reading-by, same-shown, op-same, op-le, op-faithful, symmetric-faithful, hermitian-faithful}
 use Rattle.theorems.proofs.Triangles.{times, times-cong, unknownIn, unknown-lt, beside}
-use Rattle.theorems.proofs.AgreeCalls.{Routine, worked, Shot, Plain, updated, updates-see, Picks, sum-picks, line, strip, line-index, Fair, strip-fair, vector-line, line-column-index, shaped-as, Strip, strip-strip, vector-strip, rowAt, colAt, strip-shown, Zeros, UnitIn, unitSlab, unit-count, unit-held, unit-size, unit-picks}
+use Rattle.theorems.proofs.AgreeCalls.{Routine, worked, Plain, updated, updates-see, Picks, sum-picks, line, strip, line-index, Fair, strip-fair, vector-line, line-column-index, shaped-as, Strip, strip-strip, vector-strip, rowAt, colAt, strip-shown, Zeros, UnitIn, unitSlab, unit-count, unit-held, unit-size, unit-picks}
 
 -- ---- A on a side of the other factor
 
@@ -62,8 +62,10 @@ sided-is K Left n a b i j = refl
 sided-is K Right n a b i j = refl
 
 -- a unit vector beside it shows the reading's element in the target's first line
-line-picks : (K : Kind) → Laws K → (side : Side) (n : ℕ) (a b : Matrix K) (u q : ℕ) → q < n → Picks K n q (beside K side b (rowAt side u) (colAt side u))
-    → ((p : ℕ) → p < n → Finite K (facing K side a u p)) → Holds K (facing K side a u q) → Same K (onSide K side n a b (rowAt side u) (colAt side u)) (facing K side a u q)
+line-picks : (K : Kind) → Laws K → (side : Side) (n : ℕ) (a b : Matrix K) (u q : ℕ) → q < n
+    → Picks K n q (beside K side b (rowAt side u) (colAt side u))
+    → ((p : ℕ) → p < n → Finite K (facing K side a u p)) → Holds K (facing K side a u q)
+    → Same K (onSide K side n a b (rowAt side u) (colAt side u)) (facing K side a u q)
 line-picks K L Left n a b u q h e f v = sum-picks K L Left n q (λ p. a u p) (λ p. b p 0) h e f v
 line-picks K L Right n a b u q h e f v = sum-picks K L Right n q (λ p. a p u) (λ p. b 0 p) h e f v
 
@@ -73,8 +75,10 @@ aim : (K : Kind) (side : Side) (order n r c : ℕ) → r < readRows side order n
 aim K Left order n r c p q = (r, c, p, q, λ a. refl)
 aim K Right order n r c p q = (c, r, q, p, λ a. refl)
 
-facing-by : {names : Mask} {v : View} {reading : Reading} (K : Kind) (side : Side) (order n : ℕ) → Faithful names v (readRows side order n) (readCols side order n) reading
-    → (R : K .Elem → K .Elem → Type 0) → ((x y : K .Elem) → R x y → R (K .conj x) (K .conj y)) → (a a' : Matrix K) → Below R names (v .rows) (v .cols) a a'
+facing-by : {names : Mask} {v : View} {reading : Reading} (K : Kind) (side : Side) (order n : ℕ)
+    → Faithful names v (readRows side order n) (readCols side order n) reading
+    → (R : K .Elem → K .Elem → Type 0) → ((x y : K .Elem) → R x y → R (K .conj x) (K .conj y)) → (a a' : Matrix K)
+    → Below R names (v .rows) (v .cols) a a'
     → (u p : ℕ) → u < order → p < n → R (facing K side (reading K a) u p) (facing K side (reading K a') u p)
 facing-by K Left order n F R turn a a' h u p l q = reading-by F R turn a a' h u p l q
 facing-by K Right order n F R turn a a' h u p l q = reading-by F R turn a a' h p u q l
@@ -138,7 +142,8 @@ scaled-cong K L beta {x} {y} h = at (K .isZero beta) (K .isOne beta)
     at false false = L .mul-cong (L .same-refl beta) h
 
 -- with alpha one and beta zero the target's element becomes the product's
-written : (K : Kind) → Laws K → (old p x : K .Elem) → Holds K x → Finite K x → Same K p x → Same K (K .add (scaled K (K .zero) old) (K .mul (K .one) p)) x
+written : (K : Kind) → Laws K → (old p x : K .Elem) → Holds K x → Finite K x → Same K p x
+    → Same K (K .add (scaled K (K .zero) old) (K .mul (K .one) p)) x
 written K L old p x v f h =
     rw (L .zero-is-zero)
     (L .same-trans (L .add-cong (L .same-refl (K .zero)) (L .same-trans (L .mul-cong (L .same-refl (K .one)) h) (L .one-mul v f))) (L .zero-add v))
@@ -179,7 +184,8 @@ module _ {K : Kind} (L : Laws K) (Z : Zeros K) (f : Factors K) (Form : View → 
     }
 
     -- the target's unknown u shows the reading's element
-    value : (v' : View) (a : Matrix K) → f .shapes v' (b .rhs) (b .target) ≡ true → f .terms v' (b .target) ≡ terms → Fit K names (v' .rows) (v' .cols) a → (u : ℕ) → u < b .m
+    value : (v' : View) (a : Matrix K) → f .shapes v' (b .rhs) (b .target) ≡ true → f .terms v' (b .target) ≡ terms
+        → Fit K names (v' .rows) (v' .cols) a → (u : ℕ) → u < b .m
         → Same K (unknown K (f .side) (done f v' a call) (f .written (b .target)) u 0) (facing K (f .side) (f .reading K a) u q)
     value v' a s e fit u hu =
         let F = subst (λ (k : ℕ). Faithful names v' (readRows (f .side) (orderOf (f .side) (f .written (b .target))) k) (readCols (f .side) (orderOf (f .side) (f .written (b .target))) k) (f .reading)) e
@@ -302,11 +308,13 @@ turned-sizes ConjTrans n = (refl, refl)
 
 module _ (K : Kind) (L : Laws K) where
   -- a unit vector in a line
-  side-picks : (side : Side) (n k q u : ℕ) (e : List (K .Cell)) → UnitIn K e k q → Picks K k q (beside K side (matrix K (lent K e (strip side n))) (rowAt side u) (colAt side u))
+  side-picks : (side : Side) (n k q u : ℕ) (e : List (K .Cell)) → UnitIn K e k q
+      → Picks K k q (beside K side (matrix K (lent K e (strip side n))) (rowAt side u) (colAt side u))
   side-picks Left n k q u e i = i (λ p. index (line n 1) p 0) (λ p l. let z = line-index n 1 p 0 in omega arith)
   side-picks Right n k q u e i = i (λ p. index (line 1 n) 0 p) (λ p l. let z = line-index 1 n 0 p in omega arith)
 
-  turned-picks : (t : Trans) (n q u : ℕ) (e : List (K .Cell)) → UnitIn K e n q → Picks K n q (λ p. op K t (matrix K (lent K e (strip (turned t) n))) p 0)
+  turned-picks : (t : Trans) (n q u : ℕ) (e : List (K .Cell)) → UnitIn K e n q
+      → Picks K n q (λ p. op K t (matrix K (lent K e (strip (turned t) n))) p 0)
   turned-picks NoTrans n q u e i = side-picks Left n n q u e i
   turned-picks Transposed n q u e i = side-picks Right n n q u e i
   turned-picks ConjTrans n q u e i =
@@ -352,7 +360,8 @@ module _ (K : Kind) (L : Laws K) (uplo : UpLo) (reading : Reading)
   abbrev onASide : Side → Factors K
   onASide side = record { side = side; shapes = symmShape side; written = λ c. c; terms = λ v c. orderOf side c; reading = reading; other = matrix K }
 
-  square-read : (side : Side) (v : View) (n : ℕ) → Faithful (triangle uplo) v n n reading → Faithful (triangle uplo) v (readRows side n n) (readCols side n n) reading
+  square-read : (side : Side) (v : View) (n : ℕ) → Faithful (triangle uplo) v n n reading
+      → Faithful (triangle uplo) v (readRows side n n) (readCols side n n) reading
   square-read Left v n h = h
   square-read Right v n h = h
 

@@ -1,7 +1,7 @@
 -- What the Unit cases of trsv and trsm can see of A: over any number kind with its laws. Solves with two matrices that agree are the same; and the
 -- right-hand side that shows column j of op(A) is that column: its solution is the j-th unit vector, and a matrix that has the same solution has the
 -- same column.
-use Prim.Native.Nat.{ℕ, zero, suc, _+_, _-_, _*_, _≤_, _<_, _^_}
+use Prim.Native.Nat.{ℕ, zero, suc, _+_, _-_, _*_, _≤_, _<_}
 use mathlib.Core.Bool.{Bool, true, false, cond, _&&_}
 use mathlib.Core.List.{List}
 use mathlib.Core.Path.{_≡_, refl, sym, subst, _∙_, ap}
@@ -9,22 +9,21 @@ use native.Mathlib.Decide.{ℕ-discrete}
 use native.Mathlib.Omega.{arith}
 use native.Mathlib.Nat.{one-mul, mul-one}
 use lib.Dec.{leb, ltb, eqb, lit≤}
-use lib.ListN.{length}
 use borrow.Author.Tests.{le-leb, leb-true, eq-eqb, ne-eqb}
 use Rattle.number.specs.Kind.{Kind, Same, Holds, Finite}
-use Rattle.number.specs.Laws.{Laws, SameSlab, Held}
+use Rattle.number.specs.Laws.{Laws, SameSlab}
 use Rattle.view.specs.declared.View.{View}
 use Rattle.view.specs.declared.Trans.{Trans}
 use Rattle.view.specs.declared.UpLo.{UpLo}
 use Rattle.view.specs.declared.Diag.the-variants.{Unit}
 use Rattle.view.specs.declared.Side.{Side}
+use Rattle.view.specs.declared.Side.the-variants.{Left, Right}
 use Rattle.view.specs.Any.{any}
 use Rattle.view.specs.Checks.{orderOf, trmvShape, trmmShape}
-use Rattle.view.specs.declared.Side.the-variants.{Left, Right}
 use Rattle.view.specs.Refusals.{Fits, limit}
 use Rattle.view.specs.Vector.{columnOf}
 use Rattle.view.proofs.AnyLaws.{none, and-right, is-false, clash}
-use Rattle.slab.specs.Update.{everywhere, update}
+use Rattle.slab.specs.Update.{Change, everywhere, update}
 use Rattle.slab.proofs.UpdateLaws.{count-update, length-update, update-held}
 use Rattle.blas.specs.Matrix.{Matrix}
 use Rattle.blas.specs.Substitution.{unknownAt, unknown, lastFirst, inOrder, leastSolved, turnOf, lineOf, minusTerms, solveOne, solved, substituted}
@@ -226,7 +225,8 @@ module _ (K : Kind) (L : Laws K) (side : Side) (uplo : UpLo) (t : Trans) (begin 
     term k p = times K side (coefficient K side t a (order k) p) (final p)
 
     -- each unknown of the solution is its right-hand side less what those before it bring
-    equation : (k : ℕ) → k < size → final (order k) ≡ minusTerms K (begin (unknown K side s v (order k) 0)) (term k) (firstBefore side uplo t size k) k
+    equation : (k : ℕ) → k < size
+        → final (order k) ≡ minusTerms K (begin (unknown K side s v (order k) 0)) (term k) (firstBefore side uplo t size k) k
     equation k h =
         subst (λ (n : ℕ). unknown K side (after n) v (order k) 0 ≡ formula K side uplo t Unit begin (λ b. b) a v s (after n) (order k) 0) (strip-total side v (w .one-line))
         (all-solved K (L .slab) side uplo t Unit begin a v s (fits-inside v (K .count s) fits) (apart-distinct v (K .count s) fits (w .apart)) (order k) 0 (order-lt k h) (rw (w .one-line) (lit≤ tt)))
@@ -287,7 +287,8 @@ module _ (K : Kind) (L : Laws K) (side : Side) (uplo : UpLo) (t : Trans) (begin 
     held-column : (p : ℕ) → Holds K (column K side uplo t a j p)
     held-column = column-holds K L side uplo t a j (fit .holds)
 
-    unit-step : (k : ℕ) → k < size → ((p : ℕ) → p < size → order p < k → Delta K j p (final a s counted p)) → Delta K j (order k) (final a s counted (order k))
+    unit-step : (k : ℕ) → k < size → ((p : ℕ) → p < size → order p < k → Delta K j p (final a s counted p))
+        → Delta K j (order k) (final a s counted (order k))
     unit-step k h before = record {
       here = λ e. rw (column-here K side uplo t a j (order k) e) at (alone a s counted fit (column K side uplo t a j) held-column right j k h before (λ m o. o e));
       other = λ o. at o (takes side uplo t (order k) j) refl;
@@ -320,7 +321,8 @@ module _ (K : Kind) (L : Laws K) (side : Side) (uplo : UpLo) (t : Trans) (begin 
     unit-solution p l = unit-turns size (omega arith) p l (order-lt p l)
 
     -- a matrix with the same solution has the same column
-    same-column : (a' : Matrix K) → Fit K (named uplo Unit) size size a' → SameSlab K (after a s counted size) (after a' s counted size) → (q : ℕ) → q < size →
+    same-column : (a' : Matrix K) → Fit K (named uplo Unit) size size a' → SameSlab K (after a s counted size) (after a' s counted size) → (q : ℕ)
+        → q < size →
         named uplo Unit (rowIn side t q j) (colIn side t q j) ≡ true → Same K (coefficient K side t a q j) (coefficient K side t a' q j)
     same-column a' fit' e q hq m =
         let o = named-off side uplo t q j m in
@@ -340,30 +342,6 @@ module _ (K : Kind) (L : Laws K) (side : Side) (uplo : UpLo) (t : Trans) (begin 
         L .sub-zero-same (coefficient-holds K L side t q j a (fit .holds)) (coefficient-holds K L side t q j a' (fit' .holds))
         (L .same-trans (L .same-sym row) (seen q hq .other o))
 
--- ---- a slab that shows b
-
-module _ (K : Kind) (L : Laws K) (Z : Zeros K) (side : Side) (v : View) (n : ℕ) (b : ℕ → K .Elem) where
-  abbrev filled : List (K .Cell)
-  filled = update K v everywhere (λ i j old. b (unknownIn side i j)) (Z .slab n)
-
-  filled-count : K .count filled ≡ n
-  filled-count = count-update K (L .slab) v everywhere (λ i j old. b (unknownIn side i j)) (Z .slab n) ∙ Z .count n
-
-  filled-size : n ≤ limit → K .bytes * length filled < 2 ^ 63
-  filled-size h = rw (length-update K (L .slab) v everywhere (λ i j old. b (unknownIn side i j)) (Z .slab n)) (Z .size n h)
-
-  filled-held : ((p : ℕ) → Holds K (b p)) → Held K filled
-  filled-held h =
-      update-held K (L .slab) v everywhere (λ i j old. b (unknownIn side i j)) (λ i j p q m x e. h (unknownIn side i j)) (Z .slab n) (Z .held n)
-
-  filled-shows : Strip side v n → (q : ℕ) → q < n → unknown K side filled v q 0 ≡ b q
-  filled-shows w q h =
-      strip-shown K L side v n w (Z .slab n) (Z .count n) (λ i j old. b (unknownIn side i j)) q h ∙ ap b (itself side)
-    where
-      itself : (side : Side) → unknownIn side (rowAt side q) (colAt side q) ≡ q
-      itself Left = refl
-      itself Right = refl
-
 -- ---- a solve: what alpha does to a right-hand side where it is taken up, and to B's slab before
 
 abbrev solves : (K : Kind) → Side → UpLo → Trans → (K .Elem → K .Elem → K .Elem) → (K .Elem → View → List (K .Cell) → List (K .Cell)) → InPlace K
@@ -381,66 +359,47 @@ module _ (K : Kind) (L : Laws K) (side : Side) (uplo : UpLo) (t : Trans) (begin 
   solve-keeps : Keeps K side (solves K side uplo t begin prepare) (named uplo Unit)
   solve-keeps alpha a a' v s h = substituted-same K L side uplo t (begin alpha) (S .cong alpha) a a' v h (prepare alpha v s)
 
+  -- the slab shows column j of op(A)
   line-tells : Zeros K → (v : View) → Strip side v (orderOf side v) → orderOf side v ≤ limit →
       Tells K (solves K side uplo t begin prepare) (named uplo Unit) (orderOf side v) v
-  line-tells Z v w small a fit r c hr hc m = record {
-    slab = s;
-    count = counted;
-    numbers = filled-held K L Z side v n b held;
-    size = filled-size K L Z side v n b small;
-    tells = λ a' fit' o.
-        let o' : SameOutcome K (worked K (solution a)) (worked K (solution a')) =
-        rw (unit-solved K side uplo t (begin (K .one)) a v entry, unit-solved K side uplo t (begin (K .one)) a' v entry, strip-total side v (w .one-line))
-        at o
-        in
-        element-back K L side t r c a a'
-        (same-column K L side uplo t (begin (K .one)) v w a fit entry (S .count v s ∙ counted) j j-lt right
-        a'
-        fit'
-        (o' .slab)
-        (rowIn side t r c)
-        (in-both (λ i j. i < n) side t r c hr hc)
-        (named-back (named uplo Unit) side t r c m));
-  }
+  line-tells Z v w small a fit r c hr hc m =
+      let n = orderOf side v in
+      let j = colIn side t r c in
+      let j-lt : j < n = in-both (λ i j. j < n) side t r c hc hr in
+      let b : ℕ → K .Elem = column K side uplo t a j in
+      let u : Change K = λ i j old. b (unknownIn side i j) in
+      let s = update K v everywhere u (Z .slab n) in
+      let counted : K .count s ≡ n = count-update K (L .slab) v everywhere u (Z .slab n) ∙ Z .count n in
+      -- B's slab as the solve takes it up
+      let entry = prepare (K .one) v s in
+      let held = column-holds K L side uplo t a j (fit .holds) in
+      let finite : (p : ℕ) → p < n → Finite K (b p) = λ p h.
+      by-column K side uplo t a j (Finite K) p (L .one-finite) (L .zero-finite)
+      (λ o m. coefficient-finite K L side t p j a (named uplo Unit) n h j-lt (off-diagonal side uplo t p j m o) fit)
+      in
+      let right : (p : ℕ) → p < n → Same K (begin (K .one) (unknown K side entry v p 0)) (b p) = λ p h.
+      let e = strip-shown K L side v n w (Z .slab n) (Z .count n) u p h ∙ ap b (itself side p) in
+      subst (Same K (begin (K .one) (unknown K side entry v p 0))) e
+      (S .by-one v n w s counted p h (subst (Holds K) (sym e) (held p)) (subst (Finite K) (sym e) (finite p h)))
+      in
+      record {
+        slab = s;
+        count = counted;
+        numbers = update-held K (L .slab) v everywhere u (λ i j p q m x e. held (unknownIn side i j)) (Z .slab n) (Z .held n);
+        size = rw (length-update K (L .slab) v everywhere u (Z .slab n)) (Z .size n small);
+        tells = λ a' fit' o.
+            let o' =
+            rw (unit-solved K side uplo t (begin (K .one)) a v entry, unit-solved K side uplo t (begin (K .one)) a' v entry, strip-total side v (w .one-line))
+            at o
+            in
+            element-back K L side t r c a a'
+            (same-column K L side uplo t (begin (K .one)) v w a fit entry (S .count v s ∙ counted) j j-lt right a' fit' (o' .slab)
+            (rowIn side t r c) (in-both (λ i j. i < n) side t r c hr hc) (named-back (named uplo Unit) side t r c m));
+      }
     where
-      n : ℕ
-      n = orderOf side v
-
-      j : ℕ
-      j = colIn side t r c
-
-      j-lt : j < n
-      j-lt = in-both (λ i j. j < n) side t r c hc hr
-
-      b : ℕ → K .Elem
-      b = column K side uplo t a j
-
-      held : (p : ℕ) → Holds K (b p)
-      held = column-holds K L side uplo t a j (fit .holds)
-
-      finite : (p : ℕ) → p < n → Finite K (b p)
-      finite p h =
-          by-column K side uplo t a j (Finite K) p (L .one-finite) (L .zero-finite)
-          (λ o m. coefficient-finite K L side t p j a (named uplo Unit) n h j-lt (off-diagonal side uplo t p j m o) fit)
-
-      s : List (K .Cell)
-      s = filled K L Z side v n b
-
-      counted : K .count s ≡ n
-      counted = filled-count K L Z side v n b
-
-      -- B's slab as the solve takes it up, and as the solve leaves it
-      entry : List (K .Cell)
-      entry = prepare (K .one) v s
-
-      solution : Matrix K → List (K .Cell)
-      solution a = solved K side uplo t Unit (begin (K .one)) a v n entry
-
-      right : (p : ℕ) → p < n → Same K (begin (K .one) (unknown K side entry v p 0)) (b p)
-      right p h =
-          let e = filled-shows K L Z side v n b w p h in
-          subst (Same K (begin (K .one) (unknown K side entry v p 0))) e
-          (S .by-one v n w s counted p h (subst (Holds K) (sym e) (held p)) (subst (Finite K) (sym e) (finite p h)))
+      itself : (side : Side) (q : ℕ) → unknownIn side (rowAt side q) (colAt side q) ≡ q
+      itself Left q = refl
+      itself Right q = refl
 
   solve-tells : Zeros K → (n : ℕ) → n ≤ limit → (v : View) → Strip side v n → Tells K (solves K side uplo t begin prepare) (named uplo Unit) n v
   solve-tells Z n small v w =

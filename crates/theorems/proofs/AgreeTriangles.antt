@@ -160,7 +160,8 @@ record Scales (K : Kind) (scale : K .Elem → K .Elem → K .Elem) : Type 0 wher
   cong : (alpha : K .Elem) {x y : K .Elem} → Same K x y → Same K (scale alpha x) (scale alpha y)
   by-one : {x : K .Elem} → Holds K x → Finite K x → Same K (scale (K .one) x) x
 
-abbrev multiplied : (K : Kind) → Side → UpLo → Trans → Diag → (K .Elem → K .Elem → K .Elem) → K .Elem → Matrix K → View → List (K .Cell) → List (K .Cell)
+abbrev multiplied : (K : Kind) → Side → UpLo → Trans → Diag → (K .Elem → K .Elem → K .Elem) → K .Elem → Matrix K → View → List (K .Cell)
+    → List (K .Cell)
 multiplied K side uplo t diag scale alpha a v s =
     update K v everywhere (λ i j old. scale alpha (triangularDot K side uplo t diag (orderOf side v) a (λ i j. elem K s v i j) i j)) s
 

@@ -18,10 +18,10 @@ use Rattle.view.specs.Steps.{Accepted}
 use Rattle.view.specs.Vector.{columnOf}
 use Rattle.slab.specs.Elem.{Lent, lent, elem}
 use Rattle.slab.specs.Update.{Mask, Change, everywhere, update}
-use Rattle.blas.specs.Matrix.{Matrix, matrix, vector, dot, accumulate}
+use Rattle.blas.specs.Matrix.{Matrix, matrix, vector, dot}
 use Rattle.blas.specs.Outcome.{outcome}
 use Rattle.blas.proofs.Elements.{element-law}
-use Rattle.theorems.specs.Exactness.{Wholes, Whole, WholeFactor, Scalar, RealScalar, Shows, ShowsVector, Leaves, largestPart, largestScalarPart}
+use Rattle.theorems.specs.Exactness.{Wholes, Whole, Scalar, RealScalar, Shows, ShowsVector, Leaves, largestPart, largestScalarPart}
 use Rattle.theorems.proofs.Respects.{Below, Respected, dot-respects, Reading, Faithful, reading-by}
 use Rattle.theorems.proofs.Rings.{Ring, zero-times, one-times}
 
@@ -164,17 +164,20 @@ module _ {K Z : Kind} (B : Basis K Z) where
   abbrev pub Range : Mask → ℕ → ℕ → Matrix K → Matrix Z → Type 0
   Range = Below (Sized (B .exact) elementSize)
 
-  pub shows-sized : {named : Mask} {a : Lent K} {z : Matrix Z} → Shows (wholes B) named a z → Range named (a .view .rows) (a .view .cols) (matrix K a) z
+  pub shows-sized : {named : Mask} {a : Lent K} {z : Matrix Z} → Shows (wholes B) named a z
+      → Range named (a .view .rows) (a .view .cols) (matrix K a) z
   shows-sized h i j p q u = element-sized (h .shown i j p q u)
 
   -- a vector as a matrix of one column
-  pub vector-sized : {x : Lent K} {z : ℕ → Z .Elem} → ShowsVector (wholes B) x z → Range everywhere (columnOf (x .view) .rows) 1 (vector K x) (λ i j. z i)
+  pub vector-sized : {x : Lent K} {z : ℕ → Z .Elem} → ShowsVector (wholes B) x z
+      → Range everywhere (columnOf (x .view) .rows) 1 (vector K x) (λ i j. z i)
   vector-sized {x} {z} h i j p q u =
       let e : j ≡ 0 = omega arith in
       subst (λ (k : ℕ). Sized (B .exact) elementSize (vector K x i k) (z i)) (sym e) (element-sized (h .shown i p))
 
   -- a reading of a matrix
-  pub read : {names : Mask} {m n : ℕ} {reading : Reading} (a : Lent K) {z : Matrix Z} → Faithful names (a .view) m n reading → Shows (wholes B) names a z
+  pub read : {names : Mask} {m n : ℕ} {reading : Reading} (a : Lent K) {z : Matrix Z} → Faithful names (a .view) m n reading
+      → Shows (wholes B) names a z
       → Range everywhere m n (reading K (matrix K a)) (reading Z z)
   read a {z} F h i j p q u = reading-by F (Sized (B .exact) elementSize) (λ x z. sized-respected (B .exact) .conj) (matrix K a) z (shows-sized h) i j p q
 
@@ -187,7 +190,8 @@ module _ {K Z : Kind} (B : Basis K Z) where
   abbrev pub Ready : View → ℕ → Type 0
   Ready v len = Accepted v len × (overlaps v ≡ false)
 
-  pub framed : (v : View) (mask : Mask) (u : Change K) (slab : List (K .Cell)) (z : Matrix Z) (check : Answer) → outcome K check (update K v mask u slab) slab .answer ≡ 0
+  pub framed : (v : View) (mask : Mask) (u : Change K) (slab : List (K .Cell)) (z : Matrix Z) (check : Answer)
+      → outcome K check (update K v mask u slab) slab .answer ≡ 0
       → (check ≡ Done → Ready v (K .count slab)
       × ((i j : ℕ) → i < v .rows → j < v .cols → mask i j ≡ true → Same K (u i j (elem K slab v i j)) (B .exact .ofWhole (z i j))))
       → Leaves (wholes B) mask (outcome K check (update K v mask u slab) slab .slab) (lent K slab v) z
@@ -201,7 +205,8 @@ module _ {K Z : Kind} (B : Basis K Z) where
   framed v mask u slab z Singular done h = absurd (omega arith)
 
   -- equal formulas
-  pub becomes : {mask : Mask} {after : List (K .Cell)} {c : Lent K} {z z' : Matrix Z} → ((i j : ℕ) → z i j ≡ z' i j) → Leaves (wholes B) mask after c z → Leaves (wholes B) mask after c z'
+  pub becomes : {mask : Mask} {after : List (K .Cell)} {c : Lent K} {z z' : Matrix Z} → ((i j : ℕ) → z i j ≡ z' i j)
+      → Leaves (wholes B) mask after c z → Leaves (wholes B) mask after c z'
   becomes {mask} {after} {c} e l = record {
     left = λ i j p q u. subst (λ (w : Z .Elem). Same K (elem K after (c .view) i j) (B .exact .ofWhole w)) (e i j) (l .left i j p q u);
     kept = l .kept;
@@ -235,14 +240,17 @@ module _ {K Z : Kind} (B : Basis K Z) where
     dot-sums {l = l} {r = r} {zl = zl} {zr = zr} hl hr i j p q u =
         dot-respects (sized-respected (B .exact)) n elementSize l r zl zr i j (λ k b. hl i k p b refl) (λ k b. hr k j b q refl) (sums-fit n few)
 
-    pub by-alpha : {rows cols : ℕ} {x : Matrix K} {z : Matrix Z} {alpha : K .Elem} {zalpha : Z .Elem} → Scalar (wholes B) alpha zalpha → Sums rows cols x z
+    pub by-alpha : {rows cols : ℕ} {x : Matrix K} {z : Matrix Z} {alpha : K .Elem} {zalpha : Z .Elem} → Scalar (wholes B) alpha zalpha
+        → Sums rows cols x z
         → Weighed rows cols (λ i j. K .mul alpha (x i j)) (λ i j. Z .mul zalpha (z i j))
     by-alpha h sums i j p q u = sized-respected (B .exact) .mul (scalar-sized h) (sums i j p q u) (weighed-fit n few)
 
-    pub by-real-alpha : {rows cols : ℕ} {x : Matrix K} {z : Matrix Z} {alpha : K .Factor} {zalpha : Z .Factor} → RealScalar (wholes B) alpha zalpha → Sums rows cols x z
+    pub by-real-alpha : {rows cols : ℕ} {x : Matrix K} {z : Matrix Z} {alpha : K .Factor} {zalpha : Z .Factor} → RealScalar (wholes B) alpha zalpha
+        → Sums rows cols x z
         → Weighed rows cols (λ i j. K .scaleReal alpha (x i j)) (λ i j. Z .scaleReal zalpha (z i j))
     by-real-alpha h sums i j p q u = scale-sized (B .exact) (factor-sized h) (sums i j p q u) (weighed-fit n few)
 
-    pub added : {mask : Mask} {rows cols : ℕ} {x y : Matrix K} {old sums : Matrix Z} → Scaled mask rows cols x old → Weighed rows cols y sums → (i j : ℕ) → i < rows → j < cols
+    pub added : {mask : Mask} {rows cols : ℕ} {x y : Matrix K} {old sums : Matrix Z} → Scaled mask rows cols x old → Weighed rows cols y sums
+        → (i j : ℕ) → i < rows → j < cols
         → mask i j ≡ true → Same K (K .add (x i j) (y i j)) (B .exact .ofWhole (Z .add (old i j) (sums i j)))
     added h g i j p q u = sized-respected (B .exact) .add (h i j p q u) (g i j p q refl) (B .room n few .room) .same

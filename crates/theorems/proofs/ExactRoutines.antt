@@ -1,8 +1,8 @@
 -- The seven products, the rank updates her, her2, syr2k and her2k, and the triangular products trmv and trmm are exact on whole numbers of
 -- document 01's range, over any kind with its basis. Where a routine's own order of operations is not the papers' formula, that order is exact, and
 -- over whole numbers it gives the formula.
-use Prim.Native.Nat.{ℕ, _+_, _*_, _≤_, _<_}
-use mathlib.Core.Bool.{Bool, true, false, cond, not, _&&_}
+use Prim.Native.Nat.{ℕ, _*_, _≤_, _<_}
+use mathlib.Core.Bool.{Bool, true, false, cond, _&&_}
 use mathlib.Core.Path.{_≡_, refl, sym, ap, subst, _∙_}
 use native.Mathlib.Nat.{mul-le-mul-right}
 use native.Mathlib.Omega.{arith}
@@ -19,7 +19,7 @@ use Rattle.view.specs.declared.Side.{Side}
 use Rattle.view.specs.declared.Side.the-variants.{Left, Right}
 use Rattle.view.specs.Refusals.{overlaps}
 use Rattle.view.specs.Steps.{Accepted}
-use Rattle.view.specs.Checks.{opRows, opCols, orderOf, symmShape, syrkShape, syr2kShape, gemvCheck, hemvCheck, gemmCheck, symmCheck, syrkCheck, herkCheck, herCheck, her2Check, syr2kCheck, her2kCheck, trmvCheck, trmmCheck}
+use Rattle.view.specs.Checks.{opRows, opCols, orderOf, syrkShape, syr2kShape, gemvCheck, hemvCheck, gemmCheck, symmCheck, syrkCheck, herkCheck, herCheck, her2Check, syr2kCheck, her2kCheck, trmvCheck, trmmCheck}
 use Rattle.view.specs.Triangle.{inTriangle}
 use Rattle.view.specs.Vector.{columnOf}
 use Rattle.view.proofs.AnyLaws.{both-ways}
@@ -43,16 +43,16 @@ use Rattle.blas.specs.Her2k.{her2k, her2kProduct}
 use Rattle.blas.specs.Triangular.{inOp, isUnit, triangular, triangularDot}
 use Rattle.blas.specs.Trmv.{trmv}
 use Rattle.blas.specs.Trmm.{trmm}
-use Rattle.theorems.specs.Exactness.{Scalar, RealScalar, Shows, ShowsVector, Leaves, combined, timesVector}
+use Rattle.theorems.specs.Exactness.{Scalar, Shows, ShowsVector, Leaves, combined, timesVector}
 use Rattle.theorems.specs.ExactProducts.{onSide, GemvExact, HemvExact, GemmExact, SymmExact, HemmExact, SyrkExact, HerkExact, ProductsExact}
 use Rattle.theorems.specs.ExactRank.{outer, bothTerms, byTranspose, byConjugate, HerExact, Her2Exact, Syr2kExact, Her2kExact, RankExact}
 use Rattle.theorems.specs.ExactTriangles.{onUnit, triangleOf, TrmvExact, TrmmExact, TrianglesExact}
 use Rattle.theorems.specs.Agreement.{SameShape}
 use Rattle.theorems.specs.TriangularAgreement.{named}
 use Rattle.theorems.proofs.Respects.{Respected, pair-respects, op-same, op-le, op-faithful, symmetric-faithful, hermitian-faithful}
-use Rattle.theorems.proofs.Triangles.{takes-triangle, product-respects, unknownIn, beside, dot-is}
+use Rattle.theorems.proofs.Triangles.{takes-triangle, product-respects}
 use Rattle.theorems.proofs.Rings.{Ring, pair-apart, weight-out, skipped}
-use Rattle.theorems.proofs.ExactBasis.{Sized, sized-respected, scale-sized, Basis, wholes, Few, elementSize, scalarSize, scaled-fits, product-fits, sums-fit, weighed-fit, scalar-sized, factor-sized, Range, shows-sized, vector-sized, read, fit, Ready, framed, becomes, Scaled, by-beta, by-real-beta, Sums, Weighed, dot-sums, by-alpha, by-real-alpha, added}
+use Rattle.theorems.proofs.ExactBasis.{Sized, sized-respected, scale-sized, Basis, wholes, Few, elementSize, scalarSize, scaled-fits, product-fits, sums-fit, weighed-fit, scalar-sized, factor-sized, Range, shows-sized, vector-sized, read, fit, Ready, framed, becomes, by-beta, by-real-beta, Sums, Weighed, dot-sums, by-alpha, by-real-alpha, added}
 
 -- ---- numbers of terms
 
@@ -130,8 +130,10 @@ module _ {K Z : Kind} (B : Basis K Z) where
       ))
 
   -- x, the symmetric or Hermitian matrix of A, on a side of B
-  sided-sums : (side : Side) (c : View) (few : Few (orderOf side c)) (x b : Matrix K) (zx zb : Matrix Z) → Range B everywhere (orderOf side c) (orderOf side c) x zx
-      → Range B everywhere (c .rows) (c .cols) b zb → Sums B few (c .rows) (c .cols) (onSide K side (orderOf side c) x b) (onSide Z side (orderOf side c) zx zb)
+  sided-sums : (side : Side) (c : View) (few : Few (orderOf side c)) (x b : Matrix K) (zx zb : Matrix Z)
+      → Range B everywhere (orderOf side c) (orderOf side c) x zx
+      → Range B everywhere (c .rows) (c .cols) b zb
+      → Sums B few (c .rows) (c .cols) (onSide K side (orderOf side c) x b) (onSide Z side (orderOf side c) zx zb)
   sided-sums Left c few x b zx zb hx hb = dot-sums B few hx hb
   sided-sums Right c few x b zx zb hx hb = dot-sums B few hb hx
 
@@ -187,7 +189,8 @@ module _ {K Z : Kind} (B : Basis K Z) where
         let s = op-same t (l .view) a same in
         fit B (sym (e .0 ∙ s .1)) (cols ∙ sym (e .1 ∙ s .0)) (read B l (op-faithful (l .view) tr) h)
 
-  twice-sums : {t tl tr : Trans} → Turned t tl tr → (a : Lent K) {z : Matrix Z} → Shows (wholes B) everywhere a z → (c : View) → syrkShape t (a .view) c ≡ true
+  twice-sums : {t tl tr : Trans} → Turned t tl tr → (a : Lent K) {z : Matrix Z} → Shows (wholes B) everywhere a z → (c : View)
+      → syrkShape t (a .view) c ≡ true
       → (few : Few (opCols t (a .view)))
       → Sums B few (c .rows) (c .cols) (dot K (opCols t (a .view)) (op K tl (matrix K a)) (op K tr (matrix K a))) (dot Z (opCols t (a .view)) (op Z tl z) (op Z tr z))
   twice-sums {t} turned a h c shape few =
@@ -263,7 +266,8 @@ module _ {K Z : Kind} (B : Basis K Z) where
   weighed h p q = S .wider (omega arith) (S .mul (S .mul h p (scaled-fits B)) q weighed-fits)
 
   -- a vector's elements
-  in-range : {x : Lent K} {z : ℕ → Z .Elem} {n : ℕ} → Vector (x .view) n → ShowsVector (wholes B) x z → (i : ℕ) → i < n → Sized (B .exact) (elementSize B) (vector K x i 0) (z i)
+  in-range : {x : Lent K} {z : ℕ → Z .Elem} {n : ℕ} → Vector (x .view) n → ShowsVector (wholes B) x z → (i : ℕ) → i < n
+      → Sized (B .exact) (elementSize B) (vector K x i 0) (z i)
   in-range v h i p = vector-sized B h i 0 (omega (arith, v .length)) (lit≤ tt) refl
 
   her-exact : HerExact (wholes B)
@@ -366,7 +370,8 @@ unit-swap diag i j =
 
 module _ {Z : Kind} (R : Ring Z) (uplo : UpLo) (diag : Diag) (a : Matrix Z) where
   -- element (i, j) of the triangular matrix, by whether it is inside
-  at-place : (i j : ℕ) (b : Bool) → inTriangle uplo i j ≡ b → triangleOf Z uplo diag a i j ≡ cond b (cond (onUnit diag i j) (Z .one) (a i j)) (Z .zero)
+  at-place : (i j : ℕ) (b : Bool) → inTriangle uplo i j ≡ b
+      → triangleOf Z uplo diag a i j ≡ cond b (cond (onUnit diag i j) (Z .one) (a i j)) (Z .zero)
   at-place i j b e = ap (λ (b : Bool). cond b (cond (onUnit diag i j) (Z .one) (a i j)) (Z .zero)) e
 
   inside-is : (t : Trans) (i j : ℕ) → inOp uplo t i j ≡ true → triangular Z diag t a i j ≡ op Z t (triangleOf Z uplo diag a) i j

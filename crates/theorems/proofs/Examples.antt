@@ -23,6 +23,7 @@ use Rattle.view.specs.Place.{place, index}
 use Rattle.view.specs.Refusals.{tooLarge, outOfBounds, overlaps, isVector, vecLength}
 use Rattle.view.specs.Judge.{judge}
 use Rattle.view.specs.Checks.{symmShape, trmmShape, vectorOf, gemvShape, syrkShape, syr2kShape}
+use Rattle.view.specs.Triangle.{inTriangle}
 use Rattle.view.specs.Vector.{vecStride, columnOf}
 use Rattle.view.proofs.AnyLaws.{none-at, and-left, and-right}
 use Rattle.slab.specs.Elem.{Lent, lent, elem}
@@ -46,7 +47,8 @@ use Rattle.theorems.proofs.AgreeKinds.{real64-products-see, real64-tria
 abbrev fails : Mask → View → (ℕ → ℕ → Bool) → Bool
 fails names v test = any (v .rows) (λ i. any (v .cols) (λ j. names i j && not (test i j)))
 
-passes : (names : Mask) (v : View) (test : ℕ → ℕ → Bool) → fails names v test ≡ false → (i j : ℕ) → i < v .rows → j < v .cols → names i j ≡ true → test i j ≡ true
+passes : (names : Mask) (v : View) (test : ℕ → ℕ → Bool) → fails names v test ≡ false → (i j : ℕ) → i < v .rows → j < v .cols → names i j ≡ true
+    → test i j ≡ true
 passes names v test h i j p q u =
     not-false (test i j) (sym (ap (λ (b : Bool). b && not (test i j)) u) ∙ none-at (v .cols) _ (none-at (v .rows) _ h i p) j q)
 
@@ -64,10 +66,12 @@ module _ {K Z : Kind} (W : Wholes K Z) where
     small = leb-true (W .magnitude z) m (and-right (K .same x (W .number z)) _ e);
   }
 
-  pub shows-by : (named : Mask) (a : Lent K) (z : Matrix Z) → fails named (a .view) (λ i j. isWhole largestPart (matrix K a i j) (z i j)) ≡ false → Shows W named a z
+  pub shows-by : (named : Mask) (a : Lent K) (z : Matrix Z) → fails named (a .view) (λ i j. isWhole largestPart (matrix K a i j) (z i j)) ≡ false
+      → Shows W named a z
   shows-by named a z h = record { shown = λ i j p q u. whole-by largestPart (matrix K a i j) (z i j) (passes named (a .view) (λ i j. isWhole largestPart (matrix K a i j) (z i j)) h i j p q u) }
 
-  pub shows-vector-by : (x : Lent K) (z : ℕ → Z .Elem) → any (vecLength (x .view)) (λ i. not (isWhole largestPart (vector K x i 0) (z i))) ≡ false → ShowsVector W x z
+  pub shows-vector-by : (x : Lent K) (z : ℕ → Z .Elem) → any (vecLength (x .view)) (λ i. not (isWhole largestPart (vector K x i 0) (z i))) ≡ false
+      → ShowsVector W x z
   shows-vector-by x z h = record { shown = λ i p. whole-by largestPart (vector K x i 0) (z i) (not-false _ (none-at (vecLength (x .view)) _ h i p)) }
 
 -- slabs whose numbers are all f64
@@ -83,7 +87,8 @@ held-cells [] h i d p = absurd (none i p)
 held-cells (x ∷ s) h zero d p = holds (and-left (fits binary64 x) (allFit s) h)
 held-cells (x ∷ s) h (suc i) d p = held-cells s (and-right (fits binary64 x) (allFit s) h) i d (omega arith)
 
-pub coefficient-by : (Form : View → Type 0) (names : Mask) (a : Lent real64) → Form (a .view) → tooLarge (a .view) ≡ false → outOfBounds (a .view) (length (a .slab)) ≡ false
+pub coefficient-by : (Form : View → Type 0) (names : Mask) (a : Lent real64) → Form (a .view) → tooLarge (a .view) ≡ false
+    → outOfBounds (a .view) (length (a .slab)) ≡ false
     → allFit (a .slab) ≡ true → fails names (a .view) (λ i j. finiteFloat (matrix real64 a i j)) ≡ false → Coefficient real64 Form names a
 coefficient-by Form names a form l o h f = record {
   accepted = record { form = form; not-too-large = l; not-out-of-bounds = o };
@@ -91,7 +96,8 @@ coefficient-by Form names a form l o h f = record {
   finite = λ i j n. record { finite = holds (passes names (a .view) (λ i j. finiteFloat (matrix real64 a i j)) f i j (n .row) (n .col) (n .named)) };
 }
 
-pub agree-by : (names : Mask) (a a' : Lent real64) → fails names (a .view) (λ i j. real64 .same (matrix real64 a i j) (matrix real64 a' i j)) ≡ false → Agree real64 names a a'
+pub agree-by : (names : Mask) (a a' : Lent real64)
+    → fails names (a .view) (λ i j. real64 .same (matrix real64 a i j) (matrix real64 a' i j)) ≡ false → Agree real64 names a a'
 agree-by names a a' h = record { same = λ i j n. record { same = holds (passes names (a .view) (λ i j. real64 .same (matrix real64 a i j) (matrix real64 a' i j)) h i j (n .row) (n .col) (n .named)) } }
 
 -- a matrix by its rows, one after the other
@@ -131,7 +137,7 @@ multiplied-exact =
     let l =
     real64-products-exact .symm Left Lower (float 2) a b (float 0) c (pos 2) za zb (pos 0) (λ i j. pos 0)
     (whole-by realWholes largestScalarPart (float 2) (pos 2) refl)
-    (shows-by realWholes (triangle Lower) a za refl)
+    (shows-by realWholes (inTriangle Lower) a za refl)
     (shows-by realWholes everywhere b zb refl)
     (whole-by realWholes largestScalarPart (float 0) (pos 0) refl)
     (λ e. absurd (true≢false e))

@@ -1,5 +1,5 @@
--- What holds of a number or of two: sums, products and the ways of reading a matrix respect it. `Same` and "is the whole number, of at most this
--- size" are proved from the laws here, each of the format's numbers and of the finite ones by what a reading shows.
+-- What sums, products and the ways of reading a matrix respect, proved once for any relation between the numbers of two kinds: that they are the same
+-- number (here), or one the whole number that the other is (ExactBasis); and for what holds of a number alone: that it is the format's, or finite.
 use Prim.Native.Nat.{ℕ, zero, suc, _+_, _*_, _≤_, _<_}
 use mathlib.Core.Bool.{Bool, true, false, cond}
 use mathlib.Core.Path.{_≡_, refl, ap}
@@ -79,7 +79,8 @@ module _ {K Z : Kind} {bound : ℕ} {R : ℕ → K .Elem → Z .Elem → Type 0}
       (S .add (S .add (pair-respects n m f f' g g' (λ p l. t p (omega arith)) (omega arith)) (both .0) (omega arith)) (both .1) (omega arith))
 
   -- n products
-  pub dot-respects : (n m : ℕ) (l r : Matrix K) (zl zr : Matrix Z) (i j : ℕ) → ((p : ℕ) → p < n → R m (l i p) (zl i p)) → ((p : ℕ) → p < n → R m (r p j) (zr p j))
+  pub dot-respects : (n m : ℕ) (l r : Matrix K) (zl zr : Matrix Z) (i j : ℕ) → ((p : ℕ) → p < n → R m (l i p) (zl i p))
+      → ((p : ℕ) → p < n → R m (r p j) (zr p j))
       → n * (m * m) ≤ bound → R (n * (m * m)) (dot K n l r i j) (dot Z n zl zr i j)
   dot-respects n m l r zl zr i j t t' h =
       sum-respects n (m * m) _ _ (λ p k. S .mul (t p k) (t' p k) (le-trans (omega (arith, mul-le-mul-right (m * m) k)) h)) h
@@ -96,7 +97,8 @@ pub data Reveals (reading : Reading) (i p r c : ℕ) : Type 1 where
 
 -- what the conjugate has, the reading has
 pub shows-by : {K Z : Kind} (R : K .Elem → Z .Elem → Type 0) → ((x : K .Elem) (z : Z .Elem) → R x z → R (K .conj x) (Z .conj z))
-    → (reading : Reading) (i p r c : ℕ) → Reveals reading i p r c → (a : Matrix K) (z : Matrix Z) → R (a r c) (z r c) → R (reading K a i p) (reading Z z i p)
+    → (reading : Reading) (i p r c : ℕ) → Reveals reading i p r c → (a : Matrix K) (z : Matrix Z) → R (a r c) (z r c)
+    → R (reading K a i p) (reading Z z i p)
 shows-by {K} {Z} R turn reading i p r c (plain e) a z h = rw (e K a, e Z z) h
 shows-by {K} {Z} R turn reading i p r c (conjugated e) a z h = rw (e K a, e Z z) (turn _ _ h)
 
@@ -125,7 +127,8 @@ pub record Faithful (names : Mask) (v : View) (m n : ℕ) (reading : Reading) : 
   pub source : (i p : ℕ) → i < m → p < n → Source names v reading i p
   pub spot : (r c : ℕ) → Named names v r c → Spot m n reading r c
 
-pub reading-by : {K Z : Kind} {names : Mask} {v : View} {m n : ℕ} {reading : Reading} → Faithful names v m n reading → (R : K .Elem → Z .Elem → Type 0)
+pub reading-by : {K Z : Kind} {names : Mask} {v : View} {m n : ℕ} {reading : Reading} → Faithful names v m n reading
+    → (R : K .Elem → Z .Elem → Type 0)
     → ((x : K .Elem) (z : Z .Elem) → R x z → R (K .conj x) (Z .conj z)) → (a : Matrix K) (z : Matrix Z)
     → Below R names (v .rows) (v .cols) a z → (i p : ℕ) → i < m → p < n → R (reading K a i p) (reading Z z i p)
 reading-by {reading = reading} F R turn a z h i p l q =

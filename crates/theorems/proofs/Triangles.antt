@@ -217,7 +217,8 @@ module _ (side : Side) (uplo : UpLo) (t : Trans) (diag : Diag) where
       at Unit h = entry-off K side t a q p (named-off side uplo t q p h)
 
   -- what holds of ONE and of the named elements
-  pub entry-by : (K Z : Kind) (R : K .Elem → Z .Elem → Type 0) → ((x : K .Elem) (z : Z .Elem) → R x z → R (K .conj x) (Z .conj z)) → R (K .one) (Z .one)
+  pub entry-by : (K Z : Kind) (R : K .Elem → Z .Elem → Type 0) → ((x : K .Elem) (z : Z .Elem) → R x z → R (K .conj x) (Z .conj z))
+      → R (K .one) (Z .one)
       → (n q p : ℕ) → q < n → p < n → takes side uplo t q p ≡ true → (a : Matrix K) (z : Matrix Z) → Below R (named uplo diag) n n a z
       → R (entry K side diag t a q p) (entry Z side diag t z q p)
   entry-by K Z R turn one n q p hq hp m a z h = at (reads side uplo t diag q p)
