@@ -14,11 +14,7 @@ use lib.ListN.{length}
 use borrow.Author.Tests.{eq-eqb}
 use Rattle.number.specs.Kind.{Kind, Same, Holds, Finite}
 use Rattle.number.specs.Laws.{Laws, Held, SameSlab}
-use Rattle.view.specs.declared.View.{View}
-use Rattle.view.specs.declared.Answer.{Answer}
-use Rattle.view.specs.declared.Answer.the-variants.{Done, TooLarge, OutOfBounds, ShapeMismatch, Overlap, Singular}
-use Rattle.view.specs.declared.Side.{Side}
-use Rattle.view.specs.declared.Side.the-variants.{Left, Right}
+use Rattle.theorems.proofs.Words.{View, Answer, Done, TooLarge, OutOfBounds, ShapeMismatch, Overlap, Singular, Side, Left, Right}
 use Rattle.view.specs.Place.{place, index}
 use Rattle.view.specs.Refusals.{limit, tooLarge, outOfBounds, overlaps, isVector, vecLength}
 use Rattle.view.specs.Steps.{Accepted}

@@ -11,12 +11,7 @@ use borrow.Author.Tests.{eq-eqb}
 use Rattle.number.specs.Kind.{Kind, Same, Holds, Finite}
 use Rattle.number.specs.Laws.{Laws}
 use Rattle.number.specs.Scaling.{scaled}
-use Rattle.view.specs.declared.View.{View}
-use Rattle.view.specs.declared.Trans.{Trans}
-use Rattle.view.specs.declared.Trans.the-variants.{NoTrans, Trans as Transposed, ConjTrans}
-use Rattle.view.specs.declared.UpLo.{UpLo}
-use Rattle.view.specs.declared.Side.{Side}
-use Rattle.view.specs.declared.Side.the-variants.{Left, Right}
+use Rattle.theorems.proofs.Words.{View, Trans, NoTrans, Transposed, ConjTrans, UpLo, Side, Left, Right}
 use Rattle.view.specs.Place.{index}
 use Rattle.view.specs.Refusals.{limit}
 use Rattle.view.specs.Steps.{Accepted}

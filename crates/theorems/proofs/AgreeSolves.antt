@@ -12,12 +12,7 @@ use lib.Dec.{leb, ltb, eqb, lit≤}
 use borrow.Author.Tests.{le-leb, leb-true, eq-eqb, ne-eqb}
 use Rattle.number.specs.Kind.{Kind, Same, Holds, Finite}
 use Rattle.number.specs.Laws.{Laws, SameSlab}
-use Rattle.view.specs.declared.View.{View}
-use Rattle.view.specs.declared.Trans.{Trans}
-use Rattle.view.specs.declared.UpLo.{UpLo}
-use Rattle.view.specs.declared.Diag.the-variants.{Unit}
-use Rattle.view.specs.declared.Side.{Side}
-use Rattle.view.specs.declared.Side.the-variants.{Left, Right}
+use Rattle.theorems.proofs.Words.{View, Trans, UpLo, Unit, Side, Left, Right}
 use Rattle.view.specs.Any.{any}
 use Rattle.view.specs.Checks.{orderOf, trmvShape, trmmShape}
 use Rattle.view.specs.Refusals.{Fits, limit}

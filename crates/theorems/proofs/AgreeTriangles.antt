@@ -10,12 +10,7 @@ use lib.Dec.{eqb}
 use lib.ListN.{length}
 use Rattle.number.specs.Kind.{Kind, Same, Holds, Finite}
 use Rattle.number.specs.Laws.{Laws, Held}
-use Rattle.view.specs.declared.View.{View}
-use Rattle.view.specs.declared.Trans.{Trans}
-use Rattle.view.specs.declared.UpLo.{UpLo}
-use Rattle.view.specs.declared.Diag.{Diag}
-use Rattle.view.specs.declared.Side.{Side}
-use Rattle.view.specs.declared.Side.the-variants.{Left, Right}
+use Rattle.theorems.proofs.Words.{View, Trans, UpLo, Diag, Side, Left, Right}
 use Rattle.view.specs.Refusals.{limit}
 use Rattle.view.specs.Steps.{Accepted}
 use Rattle.view.specs.Judge.{arg}

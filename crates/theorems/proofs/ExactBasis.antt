@@ -10,9 +10,7 @@ use lib.Dec.{lit≤}
 use Rattle.number.specs.Kind.{Kind, Same, SameFactor}
 use Rattle.number.specs.Scaling.{scaled, scaledReal}
 use Rattle.number.specs.Laws.{Laws, Exact}
-use Rattle.view.specs.declared.View.{View}
-use Rattle.view.specs.declared.Answer.{Answer}
-use Rattle.view.specs.declared.Answer.the-variants.{Done, TooLarge, OutOfBounds, ShapeMismatch, Overlap, Singular}
+use Rattle.theorems.proofs.Words.{View, Answer, Done, TooLarge, OutOfBounds, ShapeMismatch, Overlap, Singular}
 use Rattle.view.specs.Refusals.{limit, overlaps}
 use Rattle.view.specs.Steps.{Accepted}
 use Rattle.view.specs.Vector.{columnOf}

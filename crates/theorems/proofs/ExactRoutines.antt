@@ -10,13 +10,7 @@ use lib.Dec.{eqb, lit≤}
 use borrow.Author.Tests.{eqb-true, eq-eqb}
 use Rattle.number.specs.Kind.{Kind, Same}
 use Rattle.number.specs.Scaling.{scaled}
-use Rattle.view.specs.declared.View.{View}
-use Rattle.view.specs.declared.Trans.{Trans}
-use Rattle.view.specs.declared.Trans.the-variants.{NoTrans, Trans as Transposed, ConjTrans}
-use Rattle.view.specs.declared.UpLo.{UpLo}
-use Rattle.view.specs.declared.Diag.{Diag}
-use Rattle.view.specs.declared.Side.{Side}
-use Rattle.view.specs.declared.Side.the-variants.{Left, Right}
+use Rattle.theorems.proofs.Words.{View, Trans, NoTrans, Transposed, ConjTrans, UpLo, Diag, Side, Left, Right}
 use Rattle.view.specs.Refusals.{overlaps}
 use Rattle.view.specs.Steps.{Accepted}
 use Rattle.view.specs.Checks.{opRows, opCols, orderOf, syrkShape, syr2kShape, gemvCheck, hemvCheck, gemmCheck, symmCheck, syrkCheck, herkCheck, herCheck, her2Check, syr2kCheck, her2kCheck, trmvCheck, trmmCheck}

@@ -13,11 +13,7 @@ use borrow.Author.Tests.{leb-true, not-false}
 use Rattle.number.specs.Kind.{Kind, Same, real64, complex, finiteFloat}
 use Rattle.number.specs.Integers.{Gaussian, integers, floatOfInteger, complexOfGaussian}
 use Rattle.number.specs.declared.Complex.{Complex}
-use Rattle.view.specs.declared.View.{View}
-use Rattle.view.specs.declared.Side.the-variants.{Left}
-use Rattle.view.specs.declared.UpLo.the-variants.{Upper, Lower}
-use Rattle.view.specs.declared.Trans.the-variants.{NoTrans, Trans as Transposed, ConjTrans}
-use Rattle.view.specs.declared.Diag.the-variants.{Unit}
+use Rattle.theorems.proofs.Words.{View, NoTrans, Transposed, ConjTrans, Upper, Lower, Unit, Left}
 use Rattle.view.specs.Any.{any}
 use Rattle.view.specs.Place.{place, index}
 use Rattle.view.specs.Refusals.{tooLarge, outOfBounds, overlaps, isVector, vecLength}

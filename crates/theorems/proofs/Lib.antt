@@ -2,7 +2,8 @@
 -- Respects: what sums, products and readings of a matrix respect; Triangles: how a triangular routine reads A. Both theorems rest on them.
 -- Rings, IntegerRings: what whole numbers have and floats lack.
 -- Exact*: exactness on whole numbers; ExactInstances has the theorems for f64 and complex. Agree*: what a routine can see of a matrix;
--- AgreeKinds has the theorems for the three kinds. Examples: both theorems on given slabs. Calls: both of the kernels.
+-- AgreeKinds has the theorems for the three kinds. Examples: both theorems on given slabs. Calls: both of the kernels. Words: names that all use.
+pub mod Words
 pub mod Table
 pub mod Points
 pub mod Respects

@@ -8,11 +8,7 @@ use native.Mathlib.Omega.{arith}
 use borrow.Author.Tests.{leb-false, le-leb}
 use Rattle.number.specs.Kind.{Kind, Same, Holds, Finite}
 use Rattle.number.specs.Laws.{Laws}
-use Rattle.view.specs.declared.View.{View}
-use Rattle.view.specs.declared.Trans.{Trans}
-use Rattle.view.specs.declared.Trans.the-variants.{NoTrans, Trans as Transposed, ConjTrans}
-use Rattle.view.specs.declared.UpLo.{UpLo}
-use Rattle.view.specs.declared.UpLo.the-variants.{Upper, Lower}
+use Rattle.theorems.proofs.Words.{View, Trans, NoTrans, Transposed, ConjTrans, UpLo, Upper, Lower}
 use Rattle.view.specs.Refusals.{limit}
 use Rattle.view.specs.Checks.{opRows, opCols}
 use Rattle.view.specs.Triangle.{inTriangle}

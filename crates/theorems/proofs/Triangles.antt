@@ -10,15 +10,7 @@ use lib.Dec.{leb, eqb}
 use borrow.Author.Tests.{eq-eqb, ne-eqb}
 use Rattle.number.specs.Kind.{Kind, Same, Holds, Finite}
 use Rattle.number.specs.Laws.{Laws}
-use Rattle.view.specs.declared.View.{View}
-use Rattle.view.specs.declared.Trans.{Trans}
-use Rattle.view.specs.declared.Trans.the-variants.{NoTrans, Trans as Transposed, ConjTrans}
-use Rattle.view.specs.declared.UpLo.{UpLo}
-use Rattle.view.specs.declared.UpLo.the-variants.{Upper, Lower}
-use Rattle.view.specs.declared.Diag.{Diag}
-use Rattle.view.specs.declared.Diag.the-variants.{NonUnit, Unit}
-use Rattle.view.specs.declared.Side.{Side}
-use Rattle.view.specs.declared.Side.the-variants.{Left, Right}
+use Rattle.theorems.proofs.Words.{View, Trans, NoTrans, Transposed, ConjTrans, UpLo, Upper, Lower, Diag, NonUnit, Unit, Side, Left, Right}
 use Rattle.view.specs.Checks.{orderOf}
 use Rattle.view.specs.Triangle.{inTriangle}
 use Rattle.view.proofs.AnyLaws.{and-both, and-left, and-right, clash}
