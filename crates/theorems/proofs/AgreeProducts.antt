@@ -119,12 +119,15 @@ module _ {K : Kind} (f : Factors K) where
     picks : (e : List (K .Cell)) (q : ℕ) → UnitIn K e (f .terms v target) q → (u : ℕ)
         → Picks K (f .terms v target) q (beside K (f .side) (f .other (lent K e rhs)) (rowAt (f .side) u) (colAt (f .side) u))
 
+  -- the reading of a matrix seen through v, beside the target c, in sums of n terms
+  abbrev Read : Mask → View → View → ℕ → Type 1
+  Read names v c n = Faithful names v (readRows (f .side) (orderOf (f .side) (f .written c)) n) (readCols (f .side) (orderOf (f .side) (f .written c)) n) (f .reading)
+
   -- what is asked of a product
   record Reads (Form : View → Type 0) (names : Mask) : Type 1 where
     terms-same : (v v' c : View) → SameShape v v' → f .terms v c ≡ f .terms v' c
     shapes-same : (v v' b c : View) → SameShape v v' → f .shapes v b c ≡ f .shapes v' b c
-    faithful : (v b c : View) → f .shapes v b c ≡ true
-        → Faithful names v (readRows (f .side) (orderOf (f .side) (f .written c)) (f .terms v c)) (readCols (f .side) (orderOf (f .side) (f .written c)) (f .terms v c)) (f .reading)
+    faithful : (v b c : View) → f .shapes v b c ≡ true → Read names v c (f .terms v c)
     probe : (v : View) → Form v → v .rows ≤ limit → v .cols ≤ limit → Probe v
 
 -- scaling by one beta
@@ -157,7 +160,8 @@ module _ {K : Kind} (L : Laws K) (Z : Zeros K) (f : Factors K) (Form : View → 
       (rw (sided-is K (f .side) n (f .reading K a) (f .other (o .rhs)) i j, sided-is K (f .side) n (f .reading K a') (f .other (o .rhs)) i j)
       (sum-respects (same-respected K L) n 0 _ _
       (λ k l. times-cong K L (f .side)
-      (facing-by K (f .side) (orderOf (f .side) t) n (P .faithful v (o .rhs .view) (o .target .view) s) (Same K) (λ x y. L .conj-cong) a a' h _ k (unknown-lt (f .side) t i j p q) l)
+      (facing-by K (f .side) (orderOf (f .side) t) n (P .faithful v (o .rhs .view) (o .target .view) s) (Same K) (λ x y. L .conj-cong) a a' h
+      _ k (unknown-lt (f .side) t i j p q) l)
       (L .same-refl _))
       (omega (arith, mul-zero n))))
 
@@ -183,9 +187,7 @@ module _ {K : Kind} (L : Laws K) (Z : Zeros K) (f : Factors K) (Form : View → 
         → Fit K names (v' .rows) (v' .cols) a → (u : ℕ) → u < b .m
         → Same K (unknown K (f .side) (done f v' a call) (f .written (b .target)) u 0) (facing K (f .side) (f .reading K a) u q)
     value v' a s e fit u hu =
-        let F = subst (λ (k : ℕ). Faithful names v' (readRows (f .side) (orderOf (f .side) (f .written (b .target))) k) (readCols (f .side) (orderOf (f .side) (f .written (b .target))) k) (f .reading)) e
-        (P .faithful v' (b .rhs) (b .target) s)
-        in
+        let F = subst (Read f names v' (b .target)) e (P .faithful v' (b .rhs) (b .target) s) in
         let hu' : u < orderOf (f .side) (f .written (b .target)) = subst (λ (k : ℕ). u < k) (sym (b .written .order)) hu in
         let holds = facing-by K (f .side) _ terms F (λ x y. Holds K x) (λ x y. L .conj-holds) a a (λ i j p q m. fit .holds i j) u q hu' hq in
         let finite : (p : ℕ) → p < terms → Finite K (facing K (f .side) (f .reading K a) u p) = λ p hp.

@@ -64,7 +64,9 @@ module _ {K Z : Kind} (W : Wholes K Z) where
 
   pub shows-by : (named : Mask) (a : Lent K) (z : Matrix Z) → fails named (a .view) (λ i j. isWhole largestPart (matrix K a i j) (z i j)) ≡ false
       → Shows W named a z
-  shows-by named a z h = record { shown = λ i j p q u. whole-by largestPart (matrix K a i j) (z i j) (passes named (a .view) (λ i j. isWhole largestPart (matrix K a i j) (z i j)) h i j p q u) }
+  shows-by named a z h =
+      let test : ℕ → ℕ → Bool = λ i j. isWhole largestPart (matrix K a i j) (z i j) in
+      record { shown = λ i j p q u. whole-by largestPart (matrix K a i j) (z i j) (passes named (a .view) test h i j p q u) }
 
   pub shows-vector-by : (x : Lent K) (z : ℕ → Z .Elem) → any (vecLength (x .view)) (λ i. not (isWhole largestPart (vector K x i 0) (z i))) ≡ false
       → ShowsVector W x z
@@ -94,7 +96,9 @@ coefficient-by Form names a form l o h f = record {
 
 pub agree-by : (names : Mask) (a a' : Lent real64)
     → fails names (a .view) (λ i j. real64 .same (matrix real64 a i j) (matrix real64 a' i j)) ≡ false → Agree real64 names a a'
-agree-by names a a' h = record { same = λ i j n. record { same = holds (passes names (a .view) (λ i j. real64 .same (matrix real64 a i j) (matrix real64 a' i j)) h i j (n .row) (n .col) (n .named)) } }
+agree-by names a a' h =
+    let test : ℕ → ℕ → Bool = λ i j. real64 .same (matrix real64 a i j) (matrix real64 a' i j) in
+    record { same = λ i j n. record { same = holds (passes names (a .view) test h i j (n .row) (n .col) (n .named)) } }
 
 -- a matrix by its rows, one after the other
 abbrev rowsOf : {A : Type 0} → A → ℕ → List A → ℕ → ℕ → A
