@@ -11,10 +11,10 @@ use Rattle.view.specs.Refusals.{limit}
 use Rattle.number.proofs.Instances.{real64-laws, real32-laws, complex-laws}
 use Rattle.theorems.specs.Agreement.{ProductsSee}
 use Rattle.theorems.specs.TriangularAgreement.{TrianglesSee}
-use Rattle.theorems.proofs.AgreeUnits.{Zeros}
-use Rattle.theorems.proofs.AgreeRoutines.{products-see}
-use Rattle.theorems.proofs.AgreeTriangularProducts.{trmv-sees, trmm-sees}
-use Rattle.theorems.proofs.AgreeTriangularSolves.{trsv-sees, trsm-sees}
+use Rattle.theorems.proofs.AgreeCalls.{Zeros}
+use Rattle.theorems.proofs.AgreeProducts.{products-see}
+use Rattle.theorems.proofs.AgreeTriangles.{trmv-sees, trmm-sees}
+use Rattle.theorems.proofs.AgreeSolves.{trsv-sees, trsm-sees}
 
 -- ---- slabs of zeros
 

@@ -1,280 +1,405 @@
--- The theorem for a product in general: A is read in some way and stands on the left or on the right of the other factor.
+-- What gemv, gemm, hemv, symm and hemm can see of A, at every setting of their flags: over any number kind with its laws. A is read in some way and
+-- stands on a side of the other factor; a unit vector there shows one element of the reading.
 use Prim.Native.Nat.{ℕ, _≤_, _<_}
-use mathlib.Core.Bool.{Bool, true, false}
+use mathlib.Core.Bool.{Bool, true, false, cond, _&&_}
 use mathlib.Core.List.{List, [], _∷_}
 use mathlib.Core.Path.{_≡_, refl, sym, subst, _∙_}
+use native.Mathlib.Nat.{mul-zero}
+use native.Mathlib.Omega.{arith}
+use lib.Dec.{eqb}
+use borrow.Author.Tests.{eq-eqb}
 use Rattle.number.specs.Kind.{Kind, Same, Holds, Finite}
 use Rattle.number.specs.Laws.{Laws}
-use Rattle.view.specs.declared.View.{View}
-use Rattle.view.specs.declared.Answer.the-variants.{Done}
-use Rattle.view.specs.declared.Side.{Side}
-use Rattle.view.specs.declared.Side.the-variants.{Left, Right}
-use Rattle.view.specs.Refusals.{limit, overlaps}
+use Rattle.number.specs.Scaling.{scaled}
+use Rattle.theorems.proofs.Words.{View, Trans, NoTrans, Transposed, ConjTrans, UpLo, Side, Left, Right}
+use Rattle.view.specs.Place.{index}
+use Rattle.view.specs.Refusals.{limit}
 use Rattle.view.specs.Steps.{Accepted}
-use Rattle.view.specs.Judge.{arg, judge}
-use Rattle.view.proofs.JudgeLaws.{small, judge-passed, passed-judge}
+use Rattle.view.specs.Judge.{arg}
+use Rattle.view.specs.Checks.{opRows, opCols, orderOf, shaped, vectorOf, gemvShape, trmvShape, hemvShape, gemmShape, trmmShape, symmShape}
+use Rattle.view.specs.Vector.{columnOf}
+use Rattle.view.proofs.AnyLaws.{and-both}
+use Rattle.view.proofs.JudgeLaws.{gemv-sizes, hemv-sizes, gemm-sizes, symm-sizes}
 use Rattle.slab.specs.Elem.{Lent, lent}
-use Rattle.slab.specs.Update.{Mask}
-use Rattle.blas.specs.Matrix.{Matrix, matrix, dot}
-use Rattle.blas.specs.Outcome.{outcome}
-use Rattle.blas.specs.Solves.{linesOf}
-use Rattle.blas.proofs.Elements.{fits-inside, apart-distinct}
-use Rattle.theorems.specs.Agreement.{Product, run, Others, Alike, SameShape, Agree, Coefficient, Sees}
-use Rattle.theorems.proofs.AgreeSums.{Picks, sum-cong, pick-left, pick-right}
-use Rattle.theorems.proofs.AgreeReadings.{Faithful, same-shown, reading-same, reading-holds, reading-finite}
-use Rattle.theorems.proofs.AgreeOutcomes.{done, Value, accepted-view, judge-same, outcome-same, done-same, tells}
-use Rattle.theorems.proofs.AgreeUnits.{Fair, Zeros, UnitIn, unitSlab, unit-count, unit-picks, shot}
+use Rattle.slab.specs.Update.{Mask, everywhere, update}
+use Rattle.slab.proofs.UpdateLaws.{update-same-slab}
+use Rattle.blas.specs.Matrix.{Matrix, matrix, vector, op, symmetric, hermitian, sum, accumulate}
+use Rattle.blas.specs.Substitution.{unknownAt, unknown}
+use Rattle.blas.specs.Gemv.{gemv}
+use Rattle.blas.specs.Gemm.{gemm}
+use Rattle.blas.specs.Hemv.{hemv}
+use Rattle.blas.specs.Symm.{symm}
+use Rattle.blas.specs.Hemm.{hemm}
+use Rattle.theorems.specs.Agreement.{General, Square, SameShape, wholeMatrix, triangle, Others, run, Sees, ProductsSee}
+use Rattle.theorems.specs.ExactProducts.{onSide}
+use Rattle.theorems.proofs.Respects.{Below, Fit, same-respected, sum-respects, Reading, Faithful, reading-by, same-shown, op-same, op-le, op-faithful, symmetric-faithful, hermitian-faithful}
+use Rattle.theorems.proofs.Triangles.{times, times-cong, unknownIn, unknown-lt, beside}
+use Rattle.theorems.proofs.AgreeCalls.{Routine, worked, Plain, updated, updates-see, Picks, sum-picks, line, strip, line-index, Fair, strip-fair, vector-line, line-column-index, shaped-as, Strip, strip-strip, vector-strip, rowAt, colAt, strip-shown, Zeros, UnitIn, unitSlab, unit-count, unit-held, unit-size, unit-picks}
 
 -- ---- A on a side of the other factor
 
--- the product over n, of the reading of A and the other factor
-abbrev sided : (K : Kind) → Side → ℕ → Matrix K → Matrix K → Matrix K
-sided K Left n l r = dot K n l r
-sided K Right n l r = dot K n r l
+-- the reading's element that the target's unknown u takes in its p-th term, and the reading's shape, with as many unknowns and terms
+abbrev facing : (K : Kind) → Side → Matrix K → Matrix K
+facing K Left a u p = a u p
+facing K Right a u p = a p u
 
--- the reading's shape, in a product with the target t
-abbrev pub readRows : Side → View → ℕ → ℕ
-readRows Left t n = t .rows
-readRows Right t n = n
+abbrev readRows : Side → ℕ → ℕ → ℕ
+readRows Left order n = order
+readRows Right order n = n
 
-abbrev pub readCols : Side → View → ℕ → ℕ
-readCols Left t n = n
-readCols Right t n = t .cols
+abbrev readCols : Side → ℕ → ℕ → ℕ
+readCols Left order n = n
+readCols Right order n = order
 
--- the reading's element in the p-th term of the target's element (i, j), and the other factor's
-abbrev termRow : Side → ℕ → ℕ → ℕ → ℕ
-termRow Left i j p = i
-termRow Right i j p = p
+sided-is : (K : Kind) (side : Side) (n : ℕ) (a b : Matrix K) (i j : ℕ)
+    → onSide K side n a b i j ≡ sum K n (λ p. times K side (facing K side a (unknownIn side i j) p) (beside K side b i j p))
+sided-is K Left n a b i j = refl
+sided-is K Right n a b i j = refl
 
-abbrev termCol : Side → ℕ → ℕ → ℕ → ℕ
-termCol Left i j p = p
-termCol Right i j p = j
+-- a unit vector beside it shows the reading's element in the target's first line
+line-picks : (K : Kind) → Laws K → (side : Side) (n : ℕ) (a b : Matrix K) (u q : ℕ) → q < n
+    → Picks K n q (beside K side b (rowAt side u) (colAt side u))
+    → ((p : ℕ) → p < n → Finite K (facing K side a u p)) → Holds K (facing K side a u q)
+    → Same K (onSide K side n a b (rowAt side u) (colAt side u)) (facing K side a u q)
+line-picks K L Left n a b u q h e f v = sum-picks K L Left n q (λ p. a u p) (λ p. b p 0) h e f v
+line-picks K L Right n a b u q h e f v = sum-picks K L Right n q (λ p. a p u) (λ p. b 0 p) h e f v
 
-abbrev pub beside : (K : Kind) → Side → Matrix K → ℕ → ℕ → ℕ → K .Elem
-beside K Left r i j p = r p j
-beside K Right r i j p = r i p
+-- the unknown and the term that have the reading's element (r, c)
+aim : (K : Kind) (side : Side) (order n r c : ℕ) → r < readRows side order n → c < readCols side order n
+    → (u : ℕ) × (q : ℕ) × (u < order) × (q < n) × ((a : Matrix K) → facing K side a u q ≡ a r c)
+aim K Left order n r c p q = (r, c, p, q, λ a. refl)
+aim K Right order n r c p q = (c, r, q, p, λ a. refl)
 
-term-in : (side : Side) (t : View) (n i j p : ℕ) → i < t .rows → j < t .cols → p < n →
-    (termRow side i j p < readRows side t n) × (termCol side i j p < readCols side t n)
-term-in Left t n i j p hi hj hp = (hi, hp)
-term-in Right t n i j p hi hj hp = (hp, hj)
+facing-by : {names : Mask} {v : View} {reading : Reading} (K : Kind) (side : Side) (order n : ℕ)
+    → Faithful names v (readRows side order n) (readCols side order n) reading
+    → (R : K .Elem → K .Elem → Type 0) → ((x y : K .Elem) → R x y → R (K .conj x) (K .conj y)) → (a a' : Matrix K)
+    → Below R names (v .rows) (v .cols) a a'
+    → (u p : ℕ) → u < order → p < n → R (facing K side (reading K a) u p) (facing K side (reading K a') u p)
+facing-by K Left order n F R turn a a' h u p l q = reading-by F R turn a a' h u p l q
+facing-by K Right order n F R turn a a' h u p l q = reading-by F R turn a a' h p u q l
 
--- the target's element (i, j) whose q-th term has the reading's element (r, c)
-record Aim (side : Side) (t : View) (n r c : ℕ) : Type 0 where
-  i : ℕ
-  j : ℕ
-  q : ℕ
-  i-lt : i < t .rows
-  j-lt : j < t .cols
-  q-lt : q < n
-  row : termRow side i j q ≡ r
-  col : termCol side i j q ≡ c
-
-aim : (side : Side) (t : View) (n r c : ℕ) → 0 < linesOf side t → r < readRows side t n → c < readCols side t n → Aim side t n r c
-aim Left t n r c h p q = record { i = r; j = 0; q = c; i-lt = p; j-lt = h; q-lt = q; row = refl; col = refl }
-aim Right t n r c h p q = record { i = 0; j = c; q = r; i-lt = h; j-lt = q; q-lt = p; row = refl; col = refl }
-
-module _ (K : Kind) (L : Laws K) where
-  sided-same : (side : Side) (n n' : ℕ) (a a' r : Matrix K) (i j : ℕ) → n ≡ n' →
-      ((p : ℕ) → p < n → Same K (a (termRow side i j p) (termCol side i j p)) (a' (termRow side i j p) (termCol side i j p))) →
-      Same K (sided K side n a r i j) (sided K side n' a' r i j)
-  sided-same Left n n' a a' r i j e h =
-      sum-cong K L n n' (λ p. K .mul (a i p) (r p j)) (λ p. K .mul (a' i p) (r p j)) e (λ p l. L .mul-cong (h p l) (L .same-refl (r p j)))
-  sided-same Right n n' a a' r i j e h =
-      sum-cong K L n n' (λ p. K .mul (r i p) (a p j)) (λ p. K .mul (r i p) (a' p j)) e (λ p l. L .mul-cong (L .same-refl (r i p)) (h p l))
-
-  -- a unit vector picks the q-th term
-  sided-value : (side : Side) (n : ℕ) (a r : Matrix K) (i j q : ℕ) → q < n → Picks K n q (beside K side r i j) →
-      ((p : ℕ) → p < n → Finite K (a (termRow side i j p) (termCol side i j p))) →
-      Holds K (a (termRow side i j q) (termCol side i j q)) →
-      Value K (sided K side n a r i j) (a (termRow side i j q) (termCol side i j q))
-  sided-value Left n a r i j q l u f v =
-      record { holds = v; finite = f q l; same = pick-left K L n q (λ p. a i p) (λ p. r p j) l u f v }
-  sided-value Right n a r i j q l u f v =
-      record { holds = v; finite = f q l; same = pick-right K L n q (λ p. a p j) (λ p. r i p) l u f v }
-
--- ---- a routine
+-- ---- a product
 
 -- the side of A, the shape rule of the views of A, the right-hand side and the target, the target as it is written, how many terms an
 -- element's sum has, the reading of A, and the other factor
-pub record Routine (K : Kind) : Type 0 where
-  pub side : Side
-  pub shapes : View → View → View → Bool
-  pub written : View → View
-  pub terms : View → View → ℕ
-  pub reading : Matrix K → Matrix K
-  pub other : Lent K → Matrix K
+record Factors (K : Kind) : Type 1 where
+  side : Side
+  shapes : View → View → View → Bool
+  written : View → View
+  terms : View → View → ℕ
+  reading : Reading
+  other : Lent K → Matrix K
 
-abbrev pub product : (K : Kind) → Routine K → Product K
-product K f alpha a b beta c =
-    outcome K
-    (judge (arg (a .view) (K .count (a .slab)) ∷ arg (b .view) (K .count (b .slab)) ∷ arg (c .view) (K .count (c .slab)) ∷ [])
-    (f .shapes (a .view) (b .view) (c .view))
-    (c .view))
-    (done K (f .written (c .view)) alpha beta
-    (sided K (f .side) (f .terms (a .view) (c .view)) (f .reading (matrix K a)) (f .other b))
-    (c .slab))
-    (c .slab)
+module _ {K : Kind} (f : Factors K) where
+  abbrev routine : Routine K (Others K)
+  routine = record {
+    others = λ o. arg (o .rhs .view) (K .count (o .rhs .slab)) ∷ arg (o .target .view) (K .count (o .target .slab)) ∷ [];
+    shapes = λ v o. f .shapes v (o .rhs .view) (o .target .view);
+    target = λ o. o .target .view;
+    entry = λ o. o .target .slab;
+  }
 
--- a right-hand side, and a target of m elements, that fit a matrix seen through v
-pub record Probe (K : Kind) (f : Routine K) (v : View) : Type 0 where
-  pub rhs : View
-  pub target : View
-  pub m : ℕ
-  pub rhs-fair : Fair rhs (f .terms v target)
-  pub target-fair : Fair target m
-  pub shapes : f .shapes v rhs target ≡ true
-  pub written-accepted : Accepted (f .written target) m
-  pub written-apart : overlaps (f .written target) ≡ false
-  pub broad : 0 < linesOf (f .side) (f .written target)
-  -- where the right-hand side's slab has a unit vector, the other factor shows it
-  pub picks : (e : List (K .Cell)) (q : ℕ) → UnitIn K e (f .terms v target) q → (i j : ℕ) → i < f .written target .rows →
-      j < f .written target .cols → Picks K (f .terms v target) q (beside K (f .side) (f .other (lent K e rhs)) i j)
+  -- the target's slab after a call that is not refused
+  abbrev done : View → Matrix K → Others K → List (K .Cell)
+  done v a o =
+      update K (f .written (o .target .view)) everywhere
+      (accumulate K (scaled K (o .beta)) (K .mul (o .alpha)) (onSide K (f .side) (f .terms v (o .target .view)) (f .reading K a) (f .other (o .rhs))))
+      (o .target .slab)
 
--- what the theorem asks of a routine
-pub record Plain (K : Kind) (f : Routine K) (Form : View → Type 0) (names : Mask) : Type 0 where
-  pub terms-same : (v v' c : View) → SameShape v v' → f .terms v c ≡ f .terms v' c
-  pub shapes-same : (v v' b c : View) → SameShape v v' → f .shapes v b c ≡ f .shapes v' b c
-  pub faithful : (v b c : View) → f .shapes v b c ≡ true →
-      Faithful K names v (readRows (f .side) (f .written c) (f .terms v c)) (readCols (f .side) (f .written c) (f .terms v c)) (f .reading)
-  pub probe : (v : View) → Form v → v .rows ≤ limit → v .cols ≤ limit → Probe K f v
+  -- a right-hand side, and a target of m elements, that fit a matrix seen through v
+  record Probe (v : View) : Type 0 where
+    rhs : View
+    target : View
+    m : ℕ
+    rhs-fair : Fair rhs (f .terms v target)
+    target-fair : Fair target m
+    shapes : f .shapes v rhs target ≡ true
+    written : Strip (f .side) (f .written target) m
+    -- where the right-hand side's slab has a unit vector, the other factor shows it in the first line
+    picks : (e : List (K .Cell)) (q : ℕ) → UnitIn K e (f .terms v target) q → (u : ℕ)
+        → Picks K (f .terms v target) q (beside K (f .side) (f .other (lent K e rhs)) (rowAt (f .side) u) (colAt (f .side) u))
 
--- ---- the theorem
+  -- the reading of a matrix seen through v, beside the target c, in sums of n terms
+  abbrev Read : Mask → View → View → ℕ → Type 1
+  Read names v c n = Faithful names v (readRows (f .side) (orderOf (f .side) (f .written c)) n) (readCols (f .side) (orderOf (f .side) (f .written c)) n) (f .reading)
 
-module _ (K : Kind) (L : Laws K) (f : Routine K) (Form : View → Type 0) (names : Mask) (P : Plain K f Form names) where
-  -- the reading of a matrix
-  abbrev read : Lent K → Matrix K
-  read a = f .reading (matrix K a)
+  -- what is asked of a product
+  record Reads (Form : View → Type 0) (names : Mask) : Type 1 where
+    terms-same : (v v' c : View) → SameShape v v' → f .terms v c ≡ f .terms v' c
+    shapes-same : (v v' b c : View) → SameShape v v' → f .shapes v b c ≡ f .shapes v' b c
+    faithful : (v b c : View) → f .shapes v b c ≡ true → Read names v c (f .terms v c)
+    probe : (v : View) → Form v → v .rows ≤ limit → v .cols ≤ limit → Probe v
 
-  -- with a unit vector beside it, the product shows the reading's element
-  value : (a : Lent K) → Coefficient K Form names a → (x y : View) → f .shapes (a .view) x y ≡ true → (r : Matrix K) (i j q : ℕ) →
-      i < f .written y .rows → j < f .written y .cols → q < f .terms (a .view) y → Picks K (f .terms (a .view) y) q (beside K (f .side) r i j) →
-      Value K (sided K (f .side) (f .terms (a .view) y) (read a) r i j) (read a (termRow (f .side) i j q) (termCol (f .side) i j q))
-  value a h x y s r i j q hi hj hq u =
-      let t = f .written y in
-      let n = f .terms (a .view) y in
-      let F = P .faithful (a .view) x y s in
-      let inside : (p : ℕ) → p < n → (termRow (f .side) i j p < readRows (f .side) t n) × (termCol (f .side) i j p < readCols (f .side) t n) =
-      λ p hp. term-in (f .side) t n i j p hi hj hp
-      in
-      sided-value K L (f .side) n (read a) r i j q hq u
-      (λ p hp.
-      reading-finite K L names (a .view) (readRows (f .side) t n) (readCols (f .side) t n) (f .reading) F (matrix K a) (h .finite) _ _
-      (inside p hp .0)
-      (inside p hp .1))
-      (reading-holds K L names (a .view) (readRows (f .side) t n) (readCols (f .side) t n) (f .reading) F (matrix K a)
-      (λ i j. L .slab .at-holds (a .slab) _ (h .numbers))
-      _
-      _
-      (inside q hq .0)
-      (inside q hq .1))
+-- scaling by one beta
+scaled-cong : (K : Kind) → Laws K → (beta : K .Elem) {x y : K .Elem} → Same K x y → Same K (scaled K beta x) (scaled K beta y)
+scaled-cong K L beta {x} {y} h = at (K .isZero beta) (K .isOne beta)
+  where
+    at : (z o : Bool) → Same K (cond z (K .zero) (cond o x (K .mul beta x))) (cond z (K .zero) (cond o y (K .mul beta y)))
+    at true o = L .same-refl (K .zero)
+    at false true = h
+    at false false = L .mul-cong (L .same-refl beta) h
 
-  module _ (Z : Zeros K) (a a' : Lent K) (w : SameShape (a .view) (a' .view)) (ca : Coefficient K Form names a) (ca' : Coefficient K Form names a')
-      (h : Alike K (Others K) (run K (product K f)) a a') where
-    module _ (b : Probe K f (a .view)) where
-      abbrev terms : ℕ
-      terms = f .terms (a .view) (b .target)
+-- with alpha one and beta zero the target's element becomes the product's
+written : (K : Kind) → Laws K → (old p x : K .Elem) → Holds K x → Finite K x → Same K p x
+    → Same K (K .add (scaled K (K .zero) old) (K .mul (K .one) p)) x
+written K L old p x v f h =
+    rw (L .zero-is-zero)
+    (L .same-trans (L .add-cong (L .same-refl (K .zero)) (L .same-trans (L .mul-cong (L .same-refl (K .one)) h) (L .one-mul v f))) (L .zero-add v))
 
-      abbrev written : View
-      written = f .written (b .target)
+module _ {K : Kind} (L : Laws K) (Z : Zeros K) (f : Factors K) (Form : View → Type 0) (names : Mask) (P : Reads f Form names) where
+  -- agreement gives the same numbers
+  done-same : (v v' : View) (a a' : Matrix K) (o : Others K) → SameShape v v' → f .shapes v (o .rhs .view) (o .target .view) ≡ true
+      → Below (Same K) names (v .rows) (v .cols) a a' → (i j : ℕ) → i < f .written (o .target .view) .rows → j < f .written (o .target .view) .cols
+      → Same K (onSide K (f .side) (f .terms v (o .target .view)) (f .reading K a) (f .other (o .rhs)) i j)
+      (onSide K (f .side) (f .terms v' (o .target .view)) (f .reading K a') (f .other (o .rhs)) i j)
+  done-same v v' a a' o w s h i j p q =
+      let n = f .terms v (o .target .view) in
+      let t = f .written (o .target .view) in
+      subst (λ (k : ℕ). Same K (onSide K (f .side) n (f .reading K a) (f .other (o .rhs)) i j) (onSide K (f .side) k (f .reading K a') (f .other (o .rhs)) i j))
+      (P .terms-same v v' (o .target .view) w)
+      (rw (sided-is K (f .side) n (f .reading K a) (f .other (o .rhs)) i j, sided-is K (f .side) n (f .reading K a') (f .other (o .rhs)) i j)
+      (sum-respects (same-respected K L) n 0 _ _
+      (λ k l. times-cong K L (f .side)
+      (facing-by K (f .side) (orderOf (f .side) t) n (P .faithful v (o .rhs .view) (o .target .view) s) (Same K) (λ x y. L .conj-cong) a a' h
+      _ k (unknown-lt (f .side) t i j p q) l)
+      (L .same-refl _))
+      (omega (arith, mul-zero n))))
 
-      shapes' : f .shapes (a' .view) (b .rhs) (b .target) ≡ true
-      shapes' = sym (P .shapes-same (a .view) (a' .view) (b .rhs) (b .target) w) ∙ b .shapes
+  module _ (v : View) (b : Probe f v) (q : ℕ) (hq : q < f .terms v (b .target)) where
+    abbrev terms : ℕ
+    terms = f .terms v (b .target)
 
-      -- the call is not refused, with a as with a'
-      checked : (d : Lent K) → Coefficient K Form names d → f .shapes (d .view) (b .rhs) (b .target) ≡ true → (q : ℕ) →
-          judge (arg (d .view) (K .count (d .slab)) ∷ arg (b .rhs) (K .count (unitSlab K L Z terms q)) ∷ arg (b .target) (K .count (Z .slab (b .m))) ∷ [])
-          (f .shapes (d .view) (b .rhs) (b .target))
-          (b .target)
-          ≡ Done
-      checked d cd s q =
-          passed-judge _ _ _
-          (record {
-            each = (
-              accepted-view K Form names d cd,
-              (
-                subst (Accepted (b .rhs)) (sym (unit-count K L Z terms q)) (b .rhs-fair .accepted),
-                (subst (Accepted (b .target)) (sym (Z .count (b .m))) (b .target-fair .accepted), tt),
-              ),
-            );
-            shape = s;
-            distinct = b .target-fair .apart;
-          })
-
-      -- the reading's elements that the target's element (i, j) shows for the q-th unit vector
-      same-term : (i j q : ℕ) → i < written .rows → j < written .cols → q < terms →
-          Same K (read a (termRow (f .side) i j q) (termCol (f .side) i j q)) (read a' (termRow (f .side) i j q) (termCol (f .side) i j q))
-      same-term i j q hi hj hq =
-          let e = P .terms-same (a .view) (a' .view) (b .target) w in
-          let s = unitSlab K L Z terms q in
-          let r = f .other (lent K s (b .rhs)) in
-          let u = b .picks s q (unit-picks K L Z terms q hq) i j hi hj in
-          let accepted = subst (Accepted written) (sym (Z .count (b .m))) (b .written-accepted) in
-          tells K L written (Z .slab (b .m))
-          (fits-inside written (K .count (Z .slab (b .m))) (accepted .fits))
-          (apart-distinct written (K .count (Z .slab (b .m))) (accepted .fits) (b .written-apart))
-          _
-          _
-          i
-          j
-          hi
-          hj
-          _
-          _
-          (value a ca (b .rhs) (b .target) (b .shapes) r i j q hi hj hq u)
-          (value a' ca' (b .rhs) (b .target) shapes' r i j q hi hj
-          (subst (λ (k : ℕ). q < k) e hq)
-          (subst (λ (k : ℕ). Picks K k q (beside K (f .side) r i j)) e u))
-          _
-          _
-          (checked a ca (b .shapes) q)
-          (checked a' ca' shapes' q)
-          (h .outcome (shot K L Z (b .m) terms q (b .rhs) (b .target) (b .rhs-fair) (b .target-fair)))
-
-      same-element : (r c : ℕ) → r < readRows (f .side) written terms → c < readCols (f .side) written terms → Same K (read a r c) (read a' r c)
-      same-element r c p q =
-          let m = aim (f .side) written terms r c (b .broad) p q in
-          rw (m .row, m .col) at (same-term (m .i) (m .j) (m .q) (m .i-lt) (m .j-lt) (m .q-lt))
-
-    -- the same outcomes give agreement
-    agree : Agree K names a a'
-    agree =
-        let s = small (a .view) (ca .accepted .not-too-large) in
-        let b = P .probe (a .view) (ca .accepted .form) (s .0) (s .1) in
-        record {
-          same = λ r c n.
-              let p = P .faithful (a .view) (b .rhs) (b .target) (b .shapes) .spot r c n in
-              same-shown K L (f .reading) (p .row) (p .col) r c (p .shows) (matrix K a) (matrix K a') (same-element b (p .row) (p .col) (p .row-lt) (p .col-lt));
-        }
-
-  module _ (a a' : Lent K) (w : SameShape (a .view) (a' .view)) (ca : Coefficient K Form names a) (ca' : Coefficient K Form names a') where
-    -- agreement gives the same outcome
-    alike : Agree K names a a' → Alike K (Others K) (run K (product K f)) a a'
-    alike g = record {
-      outcome = λ o.
-          let b = o .rhs .view in
-          let c = o .target .view in
-          let t = f .written c in
-          let args = arg (a .view) (K .count (a .slab)) ∷ arg b (K .count (o .rhs .slab)) ∷ arg c (K .count (o .target .slab)) ∷ [] in
-          let n = f .terms (a .view) c in
-          outcome-same K (o .target .slab) _ _ _ _
-          (judge-same (a .view) (a' .view) _ _ _ _ _ c
-          (ca .accepted .not-too-large)
-          (ca' .accepted .not-too-large)
-          (ca .accepted .not-out-of-bounds)
-          (ca' .accepted .not-out-of-bounds)
-          (P .shapes-same (a .view) (a' .view) b c w))
-          (L .slab .slab-refl (o .target .slab))
-          (λ d.
-          let passed = judge-passed args (f .shapes (a .view) b c) c d in
-          done-same K L t (o .target .slab) _ _ (o .alpha) (o .beta)
-          (λ i j hi hj.
-          sided-same K L (f .side) n (f .terms (a' .view) c) (read a) (read a') (f .other (o .rhs)) i j (P .terms-same (a .view) (a' .view) c w)
-          (λ p hp.
-          let q = term-in (f .side) t n i j p hi hj hp in
-          reading-same K L names (a .view) (readRows (f .side) t n) (readCols (f .side) t n) (f .reading)
-          (P .faithful (a .view) b c (passed .shape)) (matrix K a) (matrix K a') (g .same) _ _ (q .0) (q .1))));
+    -- alpha one and beta zero; the right-hand side shows the q-th unit vector, the target zeros
+    abbrev call : Others K
+    call = record {
+      alpha = K .one;
+      beta = K .zero;
+      rhs = lent K (unitSlab K L Z terms q) (b .rhs);
+      target = lent K (Z .slab (b .m)) (b .target);
+      alpha-holds = L .one-holds;
+      beta-holds = L .zero-holds;
+      rhs-lendable = record { numbers = unit-held K L Z terms q; size = unit-size K L Z terms q (b .rhs-fair .small); words = b .rhs-fair .words };
+      target-lendable = record { numbers = Z .held (b .m); size = Z .size (b .m) (b .target-fair .small); words = b .target-fair .words };
     }
 
-  pub product-sees : Zeros K → Sees K (Others K) (run K (product K f)) Form names
-  product-sees Z a a' w ca ca' = (agree Z a a' w ca ca', alike a a' w ca ca')
+    -- the target's unknown u shows the reading's element
+    value : (v' : View) (a : Matrix K) → f .shapes v' (b .rhs) (b .target) ≡ true → f .terms v' (b .target) ≡ terms
+        → Fit K names (v' .rows) (v' .cols) a → (u : ℕ) → u < b .m
+        → Same K (unknown K (f .side) (done f v' a call) (f .written (b .target)) u 0) (facing K (f .side) (f .reading K a) u q)
+    value v' a s e fit u hu =
+        let F = subst (Read f names v' (b .target)) e (P .faithful v' (b .rhs) (b .target) s) in
+        let hu' : u < orderOf (f .side) (f .written (b .target)) = subst (λ (k : ℕ). u < k) (sym (b .written .order)) hu in
+        let holds = facing-by K (f .side) _ terms F (λ x y. Holds K x) (λ x y. L .conj-holds) a a (λ i j p q m. fit .holds i j) u q hu' hq in
+        let finite : (p : ℕ) → p < terms → Finite K (facing K (f .side) (f .reading K a) u p) = λ p hp.
+        facing-by K (f .side) _ terms F (λ x y. Finite K x) (λ x y. L .conj-finite) a a (fit .finite) u p hu' hp
+        in
+        let r = f .other (lent K (unitSlab K L Z terms q) (b .rhs)) in
+        rw (
+          strip-shown K L (f .side) (f .written (b .target)) (b .m) (b .written) (Z .slab (b .m)) (Z .count (b .m))
+              (accumulate K (scaled K (K .zero)) (K .mul (K .one)) (onSide K (f .side) (f .terms v' (b .target)) (f .reading K a) r)) u hu,
+          e,
+        )
+        (written K L _ _ _ holds (finite q hq)
+        (line-picks K L (f .side) terms (f .reading K a) r u q hq (b .picks (unitSlab K L Z terms q) q (unit-picks K L Z terms q hq) u) finite holds))
+
+  plain : Plain (routine f) (λ v a o. worked K (done f v a o)) Form names
+  plain = record {
+    shapes-same = λ v v' o w. P .shapes-same v v' (o .rhs .view) (o .target .view) w;
+    work-same = λ v v' a a' o w s h. record {
+      answer = refl;
+      slab = update-same-slab K (L .slab) (f .written (o .target .view)) everywhere _ _
+          (λ i j p q m x y e. L .add-cong (scaled-cong K L (o .beta) e) (L .mul-cong (L .same-refl (o .alpha)) (done-same v v' a a' o w s h i j p q))) (o .target .slab);
+    };
+    shot = λ v a form p q fit r c n.
+        let b = P .probe v form p q in
+        let s = P .faithful v (b .rhs) (b .target) (b .shapes) .spot r c n in
+        let m = aim K (f .side) (orderOf (f .side) (f .written (b .target))) (f .terms v (b .target)) (s .row) (s .col) (s .row-lt) (s .col-lt) in
+        let hu = subst (λ (k : ℕ). m .0 < k) (b .written .order) (m .2) in
+        record {
+          call = call v b (m .1) (m .3);
+          each = (
+            subst (Accepted (b .rhs)) (sym (unit-count K L Z (f .terms v (b .target)) (m .1))) (b .rhs-fair .accepted),
+            (subst (Accepted (b .target)) (sym (Z .count (b .m))) (b .target-fair .accepted), tt),
+          );
+          shape = b .shapes;
+          apart = b .target-fair .apart;
+          tells = λ v' a' w fit' o.
+              same-shown K L (f .reading) (s .row) (s .col) r c (s .shows) a a'
+              (rw (m .4 (f .reading K a), m .4 (f .reading K a')) at
+              (L .same-trans (L .same-sym (value v b (m .1) (m .3) v a (b .shapes) refl fit (m .0) hu))
+              (L .same-trans (L .slab .at-same (unknownAt (f .side) (f .written (b .target)) (m .0) 0) (o .slab))
+              (value v b (m .1) (m .3) v' a' (sym (P .shapes-same v v' (b .rhs) (b .target) w) ∙ b .shapes) (sym (P .terms-same v v' (b .target) w)) fit' (m .0) hu))));
+        };
+  }
+
+  product-sees : Sees K (Others K) (updated (routine f) (done f)) Form names
+  product-sees = updates-see L (routine f) (done f) Form names plain
+
+-- ---- gemv and hemv: the right-hand side and the target are columns of n and of m elements
+
+module _ (K : Kind) (reading : Reading) (shapes : View → View → View → Bool) (terms : View → ℕ) where
+  abbrev onVectors : Factors K
+  onVectors = record { side = Left; shapes = shapes; written = columnOf; terms = λ v c. terms v; reading = reading; other = vector K }
+
+  vectors-probe : (v : View) (m : ℕ) → m ≤ limit → terms v ≤ limit → shapes v (line (terms v) 1) (line m 1) ≡ true → Probe onVectors v
+  vectors-probe v m p q s = record {
+    rhs = line (terms v) 1;
+    target = line m 1;
+    m = m;
+    rhs-fair = strip-fair Left (terms v) q;
+    target-fair = strip-fair Left m p;
+    shapes = s;
+    written = vector-strip m p;
+    picks = λ e q i u. i (λ p. index (columnOf (line (terms v) 1)) p 0) (λ p hp. line-column-index (terms v) p);
+  }
+
+module _ (K : Kind) (L : Laws K) (Z : Zeros K) where
+  gemv-reads : (t : Trans) → Reads (onVectors K (λ K. op K t) (gemvShape t) (opCols t)) General wholeMatrix
+  unfolding gemvShape
+  gemv-reads t = record {
+    terms-same = λ v v' c w. op-same t v v' w .1;
+    shapes-same = λ v v' b c w. let e = op-same t v v' w in λ i. vectorOf b (e .1 i) && vectorOf c (e .0 i);
+    faithful = λ v b c s. subst (λ (m : ℕ). Faithful wholeMatrix v m (opCols t v) (λ K. op K t)) (sym (gemv-sizes t v b c s .1 .length)) (op-faithful v t);
+    probe = λ v form p q.
+        let l = op-le t v p q in
+        vectors-probe K (λ K. op K t) (gemvShape t) (opCols t) v (opRows t v) (l .0) (l .1)
+        (and-both (vectorOf (line (opCols t v) 1) (opCols t v)) (vectorOf (line (opRows t v) 1) (opRows t v)) (vector-line (opCols t v)) (vector-line (opRows t v)));
+  }
+
+  gemv-sees : (trans : Trans) → Sees K (Others K) (run K (gemv K trans)) General wholeMatrix
+  unfolding gemv
+  gemv-sees t = product-sees L Z (onVectors K (λ K. op K t) (gemvShape t) (opCols t)) General wholeMatrix (gemv-reads t)
+
+  hemv-reads : (uplo : UpLo) → Reads (onVectors K (λ K. hermitian K uplo) hemvShape (λ v. v .rows)) Square (triangle uplo)
+  unfolding hemvShape trmvShape
+  hemv-reads uplo = record {
+    terms-same = λ v v' c w. w .rows;
+    shapes-same = λ v v' b c w. λ i. (eqb (w .rows i) (w .rows i) && eqb (w .cols i) (w .rows i)) && vectorOf b (w .rows i) && vectorOf c (w .rows i);
+    faithful = λ v b c s.
+        let z = hemv-sizes v b c s in
+        subst (λ (m : ℕ). Faithful (triangle uplo) v m (v .rows) (λ K. hermitian K uplo)) (sym (z .2 .length)) (hermitian-faithful uplo v (v .rows) refl (z .0));
+    probe = λ v form p q.
+        let n = v .rows in
+        vectors-probe K (λ K. hermitian K uplo) hemvShape (λ v. v .rows) v n p p
+        (and-both (trmvShape v (line n 1)) (vectorOf (line n 1) n)
+        (and-both (shaped v n n) (vectorOf (line n 1) n) (shaped-as v n n refl (sym form)) (vector-line n))
+        (vector-line n));
+  }
+
+  hemv-sees : (uplo : UpLo) → Sees K (Others K) (run K (hemv K uplo)) Square (triangle uplo)
+  unfolding hemv
+  hemv-sees uplo = product-sees L Z (onVectors K (λ K. hermitian K uplo) hemvShape (λ v. v .rows)) Square (triangle uplo) (hemv-reads uplo)
+
+-- ---- gemm: the right-hand side is a column of op(B), which is a row of B where that is a transpose
+
+-- the side on which a line of B is read so
+abbrev turned : Trans → Side
+turned NoTrans = Left
+turned Transposed = Right
+turned ConjTrans = Right
+
+turned-sizes : (t : Trans) (n : ℕ) → (n ≡ opRows t (strip (turned t) n)) × (1 ≡ opCols t (strip (turned t) n))
+turned-sizes NoTrans n = (refl, refl)
+turned-sizes Transposed n = (refl, refl)
+turned-sizes ConjTrans n = (refl, refl)
+
+module _ (K : Kind) (L : Laws K) where
+  -- a unit vector in a line
+  side-picks : (side : Side) (n k q u : ℕ) (e : List (K .Cell)) → UnitIn K e k q
+      → Picks K k q (beside K side (matrix K (lent K e (strip side n))) (rowAt side u) (colAt side u))
+  side-picks Left n k q u e i = i (λ p. index (line n 1) p 0) (λ p l. let z = line-index n 1 p 0 in omega arith)
+  side-picks Right n k q u e i = i (λ p. index (line 1 n) 0 p) (λ p l. let z = line-index 1 n 0 p in omega arith)
+
+  turned-picks : (t : Trans) (n q u : ℕ) (e : List (K .Cell)) → UnitIn K e n q
+      → Picks K n q (λ p. op K t (matrix K (lent K e (strip (turned t) n))) p 0)
+  turned-picks NoTrans n q u e i = side-picks Left n n q u e i
+  turned-picks Transposed n q u e i = side-picks Right n n q u e i
+  turned-picks ConjTrans n q u e i =
+      let s = side-picks Right n n q u e i in
+      record { here = L .same-trans (L .conj-cong (s .here)) (L .conj-one); other = λ p h o. L .same-trans (L .conj-cong (s .other p h o)) (L .conj-zero) }
+
+  abbrev onMatrices : Trans → Trans → Factors K
+  onMatrices ta tb =
+      record { side = Left; shapes = gemmShape ta tb; written = λ c. c; terms = λ v c. opCols ta v; reading = λ K. op K ta; other = λ b. op K tb (matrix K b) }
+
+  gemm-reads : (ta tb : Trans) → Reads (onMatrices ta tb) General wholeMatrix
+  unfolding gemmShape
+  gemm-reads ta tb = record {
+    terms-same = λ v v' c w. op-same ta v v' w .1;
+    shapes-same = λ v v' b c w. let e = op-same ta v v' w in λ i. eqb (e .1 i) (opRows tb b) && shaped c (e .0 i) (opCols tb b);
+    faithful = λ v b c s. subst (λ (m : ℕ). Faithful wholeMatrix v m (opCols ta v) (λ K. op K ta)) (sym (gemm-sizes ta tb v b c s .1)) (op-faithful v ta);
+    probe = λ v form p q.
+        let l = op-le ta v p q in
+        let m = opRows ta v in
+        let n = opCols ta v in
+        let b = strip (turned tb) n in
+        let z = turned-sizes tb n in
+        record {
+          rhs = b;
+          target = line m 1;
+          m = m;
+          rhs-fair = strip-fair (turned tb) n (l .1);
+          target-fair = strip-fair Left m (l .0);
+          shapes = and-both (eqb n (opRows tb b)) (shaped (line m 1) m (opCols tb b)) (eq-eqb n (opRows tb b) (z .0)) (shaped-as (line m 1) m (opCols tb b) refl (z .1));
+          written = strip-strip Left m (l .0);
+          picks = λ e q i u. turned-picks tb n q u e i;
+        };
+  }
+
+  gemm-sees : Zeros K → (ta tb : Trans) → Sees K (Others K) (run K (gemm K ta tb)) General wholeMatrix
+  unfolding gemm
+  gemm-sees Z ta tb = product-sees L Z (onMatrices ta tb) General wholeMatrix (gemm-reads ta tb)
+
+-- ---- symm and hemm: a column of B where A is on the left, a row where it is on the right
+
+module _ (K : Kind) (L : Laws K) (uplo : UpLo) (reading : Reading)
+    (F : (v : View) (n : ℕ) → v .rows ≡ n → v .cols ≡ n → Faithful (triangle uplo) v n n reading) where
+  abbrev onASide : Side → Factors K
+  onASide side = record { side = side; shapes = symmShape side; written = λ c. c; terms = λ v c. orderOf side c; reading = reading; other = matrix K }
+
+  square-read : (side : Side) (v : View) (n : ℕ) → Faithful (triangle uplo) v n n reading
+      → Faithful (triangle uplo) v (readRows side n n) (readCols side n n) reading
+  square-read Left v n h = h
+  square-read Right v n h = h
+
+  side-reads : (side : Side) → Reads (onASide side) Square (triangle uplo)
+  unfolding symmShape trmmShape
+  side-reads side = record {
+    terms-same = λ v v' c w. refl;
+    shapes-same = λ v v' b c w. λ i. (eqb (w .rows i) (orderOf side c) && eqb (w .cols i) (orderOf side c)) && shaped b (c .rows) (c .cols);
+    faithful = λ v b c s. let z = symm-sizes side v b c s in square-read side v (orderOf side c) (F v (orderOf side c) (z .0) (z .1));
+    probe = λ v form p q.
+        let n = v .rows in
+        let b = strip side n in
+        let e = sym (strip-strip side n p .order) in
+        record {
+          rhs = b;
+          target = b;
+          m = n;
+          rhs-fair = subst (Fair b) e (strip-fair side n p);
+          target-fair = strip-fair side n p;
+          shapes = and-both (trmmShape side v b) (shaped b (b .rows) (b .cols))
+              (shaped-as v (orderOf side b) (orderOf side b) e (sym form ∙ e))
+              (shaped-as b (b .rows) (b .cols) refl refl);
+          written = strip-strip side n p;
+          picks = λ s q i u. side-picks K L side n (orderOf side b) q u s i;
+        };
+  }
+
+  side-sees : Zeros K → (side : Side) → Sees K (Others K) (updated (routine (onASide side)) (done (onASide side))) Square (triangle uplo)
+  side-sees Z side = product-sees L Z (onASide side) Square (triangle uplo) (side-reads side)
+
+module _ (K : Kind) (L : Laws K) (Z : Zeros K) where
+  symm-sees : (side : Side) (uplo : UpLo) → Sees K (Others K) (run K (symm K side uplo)) Square (triangle uplo)
+  unfolding symm
+  symm-sees Left uplo = side-sees K L uplo (λ K. symmetric K uplo) (symmetric-faithful uplo) Z Left
+  symm-sees Right uplo = side-sees K L uplo (λ K. symmetric K uplo) (symmetric-faithful uplo) Z Right
+
+  hemm-sees : (side : Side) (uplo : UpLo) → Sees K (Others K) (run K (hemm K side uplo)) Square (triangle uplo)
+  unfolding hemm
+  hemm-sees Left uplo = side-sees K L uplo (λ K. hermitian K uplo) (hermitian-faithful uplo) Z Left
+  hemm-sees Right uplo = side-sees K L uplo (λ K. hermitian K uplo) (hermitian-faithful uplo) Z Right
+
+pub products-see : (K : Kind) → Laws K → Zeros K → ProductsSee K
+products-see K L Z =
+    record { gemv-sees = gemv-sees K L Z; gemm-sees = gemm-sees K L Z; hemv-sees = hemv-sees K L Z; symm-sees = symm-sees K L Z; hemm-sees = hemm-sees K L Z }

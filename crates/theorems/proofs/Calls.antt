@@ -1,6 +1,6 @@
 -- What the theorems say of outcomes holds of the kernels' answers and slabs: their contracts are two equations.
 use mathlib.Core.List.{List}
-use mathlib.Core.Path.{_≡_, sym, subst, _∙_}
+use mathlib.Core.Path.{sym, subst, _∙_}
 use Rattle.number.specs.Kind.{Kind}
 use Rattle.number.specs.Laws.{SameSlab}
 use Rattle.view.specs.declared.View.{View}

@@ -13,11 +13,8 @@ use Rattle.theorems.specs.ExactProducts.{ProductsExact}
 use Rattle.theorems.specs.ExactRank.{RankExact}
 use Rattle.theorems.specs.ExactTriangles.{TrianglesExact}
 use Rattle.theorems.proofs.IntegerRings.{integers-ring, gaussian-ring}
-use Rattle.theorems.proofs.ExactSums.{Room, room-less}
-use Rattle.theorems.proofs.ExactBasis.{Basis}
-use Rattle.theorems.proofs.ExactProducts.{products-exact}
-use Rattle.theorems.proofs.ExactRank.{rank-exact}
-use Rattle.theorems.proofs.ExactTriangles.{triangles-exact}
+use Rattle.theorems.proofs.ExactBasis.{Room, room-less, Basis}
+use Rattle.theorems.proofs.ExactRoutines.{products-exact, rank-exact, triangles-exact}
 
 -- ---- the room that the range leaves below 2 ^ 53, for numbers of one part and of two, with two products for each index
 

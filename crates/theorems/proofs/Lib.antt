@@ -1,34 +1,22 @@
 -- Proofs of the theorems, over any number kind with its laws, then for each kind. Table: document 01's worked examples; Points: calls beside them.
+-- Respects: what sums, products and readings of a matrix respect; Triangles: how a triangular routine reads A. Both theorems rest on them.
 -- Rings, IntegerRings: what whole numbers have and floats lack.
 -- Exact*: exactness on whole numbers; ExactInstances has the theorems for f64 and complex. Agree*: what a routine can see of a matrix;
--- AgreeKinds has the theorems for the three kinds.
+-- AgreeKinds has the theorems for the three kinds. Examples: both theorems on given slabs. Calls: both of the kernels. Words: names that all use.
+pub mod Words
 pub mod Table
 pub mod Points
+pub mod Respects
+pub mod Triangles
 pub mod Rings
 pub mod IntegerRings
-pub mod ExactSums
-pub mod ExactReadings
-pub mod ExactTargets
 pub mod ExactBasis
-pub mod ExactEngine
-pub mod ExactProducts
-pub mod ExactRank
-pub mod ExactTriangles
+pub mod ExactRoutines
 pub mod ExactInstances
-pub mod ExactWorked
-pub mod AgreeSums
-pub mod AgreeReadings
-pub mod AgreeOutcomes
-pub mod AgreeUnits
+pub mod AgreeCalls
 pub mod AgreeProducts
-pub mod AgreeRoutines
-pub mod AgreeCoefficients
-pub mod AgreeStrips
-pub mod AgreeSingles
-pub mod AgreeTriangularProducts
-pub mod AgreeDifferences
+pub mod AgreeTriangles
 pub mod AgreeSolves
-pub mod AgreeTriangularSolves
 pub mod AgreeKinds
-pub mod AgreeExamples
+pub mod Examples
 pub mod Calls

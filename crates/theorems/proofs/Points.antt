@@ -3,10 +3,7 @@ use mathlib.Core.List.{[], _∷_}
 use mathlib.Core.Path.{_≡_, refl}
 use lib.Ieee.{add, sub, mul, div, neg, eq, ofInt}
 use Rattle.number.specs.Kind.{real64, complex}
-use Rattle.view.specs.declared.Side.the-variants.{Left}
-use Rattle.view.specs.declared.Trans.the-variants.{NoTrans, ConjTrans}
-use Rattle.view.specs.declared.UpLo.the-variants.{Upper}
-use Rattle.view.specs.declared.Diag.the-variants.{NonUnit, Unit}
+use Rattle.theorems.proofs.Words.{NoTrans, ConjTrans, Upper, NonUnit, Unit, Left}
 use Rattle.view.specs.Any.{any}
 use Rattle.view.specs.Place.{place, index}
 use Rattle.view.specs.Refusals.{tooLarge, outOfBounds, overlaps, isVector}

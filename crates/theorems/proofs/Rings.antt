@@ -63,7 +63,8 @@ module _ {Z : Kind} (R : Ring Z) where
   weight-out n a f g = (λ i. sum Z n (λ p. R .mul-assoc a (f p) (g p) i)) ∙ factor-out n a (λ p. Z .mul (f p) (g p))
 
   -- a skipped term counts as ZERO
-  pub skipped : (n : ℕ) (admits : ℕ → Bool) (f g : ℕ → Z .Elem) → ((p : ℕ) → admits p ≡ true → f p ≡ g p) → ((p : ℕ) → admits p ≡ false → g p ≡ Z .zero)
+  pub skipped : (n : ℕ) (admits : ℕ → Bool) (f g : ℕ → Z .Elem) → ((p : ℕ) → admits p ≡ true → f p ≡ g p)
+      → ((p : ℕ) → admits p ≡ false → g p ≡ Z .zero)
       → sumOver Z n admits f ≡ sum Z n g
   unfolding sumOver sum
   skipped zero admits f g h h' = refl
