@@ -1,5 +1,5 @@
 # make demo: the two-point path. make test: the gate. The rest builds the archive, tests its bindings and compares with the Rust (oracle/).
-.PHONY: demo numbers test archive c-test rust-test oracle-test lists counts compare bench netlib-examples need-rt need-cargo need-cc
+.PHONY: demo numbers test kinds archive c-test rust-test oracle-test lists counts compare bench netlib-examples need-rt need-cargo need-cc
 
 ARCHIVE = target/libzirve_blas.a
 KINDS = real64 real32 complex
@@ -27,8 +27,13 @@ numbers: need-rt
 
 # rt ci comes last: its last line, 'N passed, M failed', is the verdict.
 test: need-rt
+	scripts/kinds --check
 	rt fmt --check
 	rt ci
+
+# The texts of f32, and of complex numbers where they are the same, written from those of f64.
+kinds:
+	scripts/kinds
 
 # For C and Rust; include/zirve_blas.h declares its functions.
 archive: $(ARCHIVE)

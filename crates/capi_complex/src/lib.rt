@@ -54,7 +54,7 @@ pub extern "C" fn zb_zgemv(
     let vx = view_of(xstart, xrows, xcols, xrs, xcs);
     let vy = view_of(ystart, yrows, ycols, yrs, ycs);
     if is_trans(trans) {
-        number(product_complex::gemv(
+        number(product_complex::gemv::gemv(
             trans_of(trans),
             Complex {
                 re: alphare,
@@ -109,7 +109,7 @@ pub extern "C" fn zb_zhemv(
     let vx = view_of(xstart, xrows, xcols, xrs, xcs);
     let vy = view_of(ystart, yrows, ycols, yrs, ycs);
     if is_uplo(uplo) {
-        number(product_complex::hemv(
+        number(product_complex::hemv::hemv(
             uplo_of(uplo),
             Complex {
                 re: alphare,
@@ -165,7 +165,7 @@ pub extern "C" fn zb_zgemm(
     let vb = view_of(bstart, brows, bcols, brs, bcs);
     let vc = view_of(cstart, crows, ccols, crs, ccs);
     if is_trans_trans(ta, tb) {
-        number(product_complex::gemm(
+        number(product_complex::gemm::gemm(
             trans_of(ta),
             trans_of(tb),
             Complex {
@@ -222,7 +222,7 @@ pub extern "C" fn zb_zsymm(
     let vb = view_of(bstart, brows, bcols, brs, bcs);
     let vc = view_of(cstart, crows, ccols, crs, ccs);
     if is_side_uplo(side, uplo) {
-        number(product_complex::symm(
+        number(product_complex::symm::symm(
             side_of(side),
             uplo_of(uplo),
             Complex {
@@ -279,7 +279,7 @@ pub extern "C" fn zb_zhemm(
     let vb = view_of(bstart, brows, bcols, brs, bcs);
     let vc = view_of(cstart, crows, ccols, crs, ccs);
     if is_side_uplo(side, uplo) {
-        number(product_complex::hemm(
+        number(product_complex::hemm::hemm(
             side_of(side),
             uplo_of(uplo),
             Complex {
@@ -329,7 +329,7 @@ pub extern "C" fn zb_zsyrk(
     let va = view_of(astart, arows, acols, ars, acs);
     let vc = view_of(cstart, crows, ccols, crs, ccs);
     if is_uplo_trans(uplo, trans) {
-        number(product_complex::syrk(
+        number(product_complex::syrk::syrk(
             uplo_of(uplo),
             trans_of(trans),
             Complex {
@@ -375,7 +375,16 @@ pub extern "C" fn zb_zherk(
     let va = view_of(astart, arows, acols, ars, acs);
     let vc = view_of(cstart, crows, ccols, crs, ccs);
     if is_uplo_trans(uplo, trans) {
-        number(product_complex::herk(uplo_of(uplo), trans_of(trans), alpha, a, va, beta, c, vc))
+        number(product_complex::herk::herk(
+            uplo_of(uplo),
+            trans_of(trans),
+            alpha,
+            a,
+            va,
+            beta,
+            c,
+            vc,
+        ))
     } else {
         number(refuse2(va, a.len() / 2, vc, c.len() / 2))
     }
@@ -404,7 +413,7 @@ pub extern "C" fn zb_zher(
     let vx = view_of(xstart, xrows, xcols, xrs, xcs);
     let va = view_of(astart, arows, acols, ars, acs);
     if is_uplo(uplo) {
-        number(rank_complex::her(uplo_of(uplo), alpha, x, vx, a, va))
+        number(rank_complex::her::her(uplo_of(uplo), alpha, x, vx, a, va))
     } else {
         number(refuse2(vx, x.len() / 2, va, a.len() / 2))
     }
@@ -441,7 +450,7 @@ pub extern "C" fn zb_zher2(
     let vy = view_of(ystart, yrows, ycols, yrs, ycs);
     let va = view_of(astart, arows, acols, ars, acs);
     if is_uplo(uplo) {
-        number(rank_complex::her2(
+        number(rank_complex::her2::her2(
             uplo_of(uplo),
             Complex {
                 re: alphare,
@@ -493,7 +502,7 @@ pub extern "C" fn zb_zsyr2k(
     let vb = view_of(bstart, brows, bcols, brs, bcs);
     let vc = view_of(cstart, crows, ccols, crs, ccs);
     if is_uplo_trans(uplo, trans) {
-        number(rank_complex::syr2k(
+        number(rank_complex::syr2k::syr2k(
             uplo_of(uplo),
             trans_of(trans),
             Complex {
@@ -549,7 +558,7 @@ pub extern "C" fn zb_zher2k(
     let vb = view_of(bstart, brows, bcols, brs, bcs);
     let vc = view_of(cstart, crows, ccols, crs, ccs);
     if is_uplo_trans(uplo, trans) {
-        number(rank_complex::her2k(
+        number(rank_complex::her2k::her2k(
             uplo_of(uplo),
             trans_of(trans),
             Complex {
@@ -593,7 +602,15 @@ pub extern "C" fn zb_ztrmv(
     let va = view_of(astart, arows, acols, ars, acs);
     let vx = view_of(xstart, xrows, xcols, xrs, xcs);
     if is_uplo_trans_diag(uplo, trans, diag) {
-        number(triangle_complex::trmv(uplo_of(uplo), trans_of(trans), diag_of(diag), a, va, x, vx))
+        number(triangle_complex::trmv::trmv(
+            uplo_of(uplo),
+            trans_of(trans),
+            diag_of(diag),
+            a,
+            va,
+            x,
+            vx,
+        ))
     } else {
         number(refuse2(va, a.len() / 2, vx, x.len() / 2))
     }
@@ -623,7 +640,15 @@ pub extern "C" fn zb_ztrsv(
     let va = view_of(astart, arows, acols, ars, acs);
     let vx = view_of(xstart, xrows, xcols, xrs, xcs);
     if is_uplo_trans_diag(uplo, trans, diag) {
-        number(triangle_complex::trsv(uplo_of(uplo), trans_of(trans), diag_of(diag), a, va, x, vx))
+        number(triangle_complex::trsv::trsv(
+            uplo_of(uplo),
+            trans_of(trans),
+            diag_of(diag),
+            a,
+            va,
+            x,
+            vx,
+        ))
     } else {
         number(refuse2(va, a.len() / 2, vx, x.len() / 2))
     }
@@ -656,7 +681,7 @@ pub extern "C" fn zb_ztrmm(
     let va = view_of(astart, arows, acols, ars, acs);
     let vb = view_of(bstart, brows, bcols, brs, bcs);
     if is_side_uplo_trans_diag(side, uplo, trans, diag) {
-        number(triangle_complex::trmm(
+        number(triangle_complex::trmm::trmm(
             side_of(side),
             uplo_of(uplo),
             trans_of(trans),
@@ -702,7 +727,7 @@ pub extern "C" fn zb_ztrsm(
     let va = view_of(astart, arows, acols, ars, acs);
     let vb = view_of(bstart, brows, bcols, brs, bcs);
     if is_side_uplo_trans_diag(side, uplo, trans, diag) {
-        number(triangle_complex::trsm(
+        number(triangle_complex::trsm::trsm(
             side_of(side),
             uplo_of(uplo),
             trans_of(trans),

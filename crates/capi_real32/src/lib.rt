@@ -52,7 +52,7 @@ pub extern "C" fn zb_sgemv(
     let vx = view_of(xstart, xrows, xcols, xrs, xcs);
     let vy = view_of(ystart, yrows, ycols, yrs, ycs);
     if is_trans(trans) {
-        number(product_real32::gemv(
+        number(product_real32::gemv::gemv(
             trans_of(trans),
             Real32(alpha),
             a,
@@ -99,7 +99,7 @@ pub extern "C" fn zb_shemv(
     let vx = view_of(xstart, xrows, xcols, xrs, xcs);
     let vy = view_of(ystart, yrows, ycols, yrs, ycs);
     if is_uplo(uplo) {
-        number(product_real32::hemv(
+        number(product_real32::hemv::hemv(
             uplo_of(uplo),
             Real32(alpha),
             a,
@@ -147,7 +147,7 @@ pub extern "C" fn zb_sgemm(
     let vb = view_of(bstart, brows, bcols, brs, bcs);
     let vc = view_of(cstart, crows, ccols, crs, ccs);
     if is_trans_trans(ta, tb) {
-        number(product_real32::gemm(
+        number(product_real32::gemm::gemm(
             trans_of(ta),
             trans_of(tb),
             Real32(alpha),
@@ -196,7 +196,7 @@ pub extern "C" fn zb_ssymm(
     let vb = view_of(bstart, brows, bcols, brs, bcs);
     let vc = view_of(cstart, crows, ccols, crs, ccs);
     if is_side_uplo(side, uplo) {
-        number(product_real32::symm(
+        number(product_real32::symm::symm(
             side_of(side),
             uplo_of(uplo),
             Real32(alpha),
@@ -245,7 +245,7 @@ pub extern "C" fn zb_shemm(
     let vb = view_of(bstart, brows, bcols, brs, bcs);
     let vc = view_of(cstart, crows, ccols, crs, ccs);
     if is_side_uplo(side, uplo) {
-        number(product_real32::hemm(
+        number(product_real32::hemm::hemm(
             side_of(side),
             uplo_of(uplo),
             Real32(alpha),
@@ -287,7 +287,7 @@ pub extern "C" fn zb_ssyrk(
     let va = view_of(astart, arows, acols, ars, acs);
     let vc = view_of(cstart, crows, ccols, crs, ccs);
     if is_uplo_trans(uplo, trans) {
-        number(product_real32::syrk(
+        number(product_real32::syrk::syrk(
             uplo_of(uplo),
             trans_of(trans),
             Real32(alpha),
@@ -327,7 +327,16 @@ pub extern "C" fn zb_sherk(
     let va = view_of(astart, arows, acols, ars, acs);
     let vc = view_of(cstart, crows, ccols, crs, ccs);
     if is_uplo_trans(uplo, trans) {
-        number(product_real32::herk(uplo_of(uplo), trans_of(trans), alpha, a, va, beta, c, vc))
+        number(product_real32::herk::herk(
+            uplo_of(uplo),
+            trans_of(trans),
+            alpha,
+            a,
+            va,
+            beta,
+            c,
+            vc,
+        ))
     } else {
         number(refuse2(va, a.len(), vc, c.len()))
     }
@@ -356,7 +365,7 @@ pub extern "C" fn zb_sher(
     let vx = view_of(xstart, xrows, xcols, xrs, xcs);
     let va = view_of(astart, arows, acols, ars, acs);
     if is_uplo(uplo) {
-        number(rank_real32::her(uplo_of(uplo), alpha, x, vx, a, va))
+        number(rank_real32::her::her(uplo_of(uplo), alpha, x, vx, a, va))
     } else {
         number(refuse2(vx, x.len(), va, a.len()))
     }
@@ -392,7 +401,7 @@ pub extern "C" fn zb_sher2(
     let vy = view_of(ystart, yrows, ycols, yrs, ycs);
     let va = view_of(astart, arows, acols, ars, acs);
     if is_uplo(uplo) {
-        number(rank_real32::her2(uplo_of(uplo), Real32(alpha), x, vx, y, vy, a, va))
+        number(rank_real32::her2::her2(uplo_of(uplo), Real32(alpha), x, vx, y, vy, a, va))
     } else {
         number(refuse3(vx, x.len(), vy, y.len(), va, a.len()))
     }
@@ -430,7 +439,7 @@ pub extern "C" fn zb_ssyr2k(
     let vb = view_of(bstart, brows, bcols, brs, bcs);
     let vc = view_of(cstart, crows, ccols, crs, ccs);
     if is_uplo_trans(uplo, trans) {
-        number(rank_real32::syr2k(
+        number(rank_real32::syr2k::syr2k(
             uplo_of(uplo),
             trans_of(trans),
             Real32(alpha),
@@ -479,7 +488,7 @@ pub extern "C" fn zb_sher2k(
     let vb = view_of(bstart, brows, bcols, brs, bcs);
     let vc = view_of(cstart, crows, ccols, crs, ccs);
     if is_uplo_trans(uplo, trans) {
-        number(rank_real32::her2k(
+        number(rank_real32::her2k::her2k(
             uplo_of(uplo),
             trans_of(trans),
             Real32(alpha),
@@ -520,7 +529,15 @@ pub extern "C" fn zb_strmv(
     let va = view_of(astart, arows, acols, ars, acs);
     let vx = view_of(xstart, xrows, xcols, xrs, xcs);
     if is_uplo_trans_diag(uplo, trans, diag) {
-        number(triangle_real32::trmv(uplo_of(uplo), trans_of(trans), diag_of(diag), a, va, x, vx))
+        number(triangle_real32::trmv::trmv(
+            uplo_of(uplo),
+            trans_of(trans),
+            diag_of(diag),
+            a,
+            va,
+            x,
+            vx,
+        ))
     } else {
         number(refuse2(va, a.len(), vx, x.len()))
     }
@@ -550,7 +567,15 @@ pub extern "C" fn zb_strsv(
     let va = view_of(astart, arows, acols, ars, acs);
     let vx = view_of(xstart, xrows, xcols, xrs, xcs);
     if is_uplo_trans_diag(uplo, trans, diag) {
-        number(triangle_real32::trsv(uplo_of(uplo), trans_of(trans), diag_of(diag), a, va, x, vx))
+        number(triangle_real32::trsv::trsv(
+            uplo_of(uplo),
+            trans_of(trans),
+            diag_of(diag),
+            a,
+            va,
+            x,
+            vx,
+        ))
     } else {
         number(refuse2(va, a.len(), vx, x.len()))
     }
@@ -582,7 +607,7 @@ pub extern "C" fn zb_strmm(
     let va = view_of(astart, arows, acols, ars, acs);
     let vb = view_of(bstart, brows, bcols, brs, bcs);
     if is_side_uplo_trans_diag(side, uplo, trans, diag) {
-        number(triangle_real32::trmm(
+        number(triangle_real32::trmm::trmm(
             side_of(side),
             uplo_of(uplo),
             trans_of(trans),
@@ -624,7 +649,7 @@ pub extern "C" fn zb_strsm(
     let va = view_of(astart, arows, acols, ars, acs);
     let vb = view_of(bstart, brows, bcols, brs, bcs);
     if is_side_uplo_trans_diag(side, uplo, trans, diag) {
-        number(triangle_real32::trsm(
+        number(triangle_real32::trsm::trsm(
             side_of(side),
             uplo_of(uplo),
             trans_of(trans),

@@ -52,7 +52,7 @@ pub extern "C" fn zb_dgemv(
     let vx = view_of(xstart, xrows, xcols, xrs, xcs);
     let vy = view_of(ystart, yrows, ycols, yrs, ycs);
     if is_trans(trans) {
-        number(product_real64::gemv(
+        number(product_real64::gemv::gemv(
             trans_of(trans),
             Real64(alpha),
             a,
@@ -99,7 +99,7 @@ pub extern "C" fn zb_dhemv(
     let vx = view_of(xstart, xrows, xcols, xrs, xcs);
     let vy = view_of(ystart, yrows, ycols, yrs, ycs);
     if is_uplo(uplo) {
-        number(product_real64::hemv(
+        number(product_real64::hemv::hemv(
             uplo_of(uplo),
             Real64(alpha),
             a,
@@ -147,7 +147,7 @@ pub extern "C" fn zb_dgemm(
     let vb = view_of(bstart, brows, bcols, brs, bcs);
     let vc = view_of(cstart, crows, ccols, crs, ccs);
     if is_trans_trans(ta, tb) {
-        number(product_real64::gemm(
+        number(product_real64::gemm::gemm(
             trans_of(ta),
             trans_of(tb),
             Real64(alpha),
@@ -196,7 +196,7 @@ pub extern "C" fn zb_dsymm(
     let vb = view_of(bstart, brows, bcols, brs, bcs);
     let vc = view_of(cstart, crows, ccols, crs, ccs);
     if is_side_uplo(side, uplo) {
-        number(product_real64::symm(
+        number(product_real64::symm::symm(
             side_of(side),
             uplo_of(uplo),
             Real64(alpha),
@@ -245,7 +245,7 @@ pub extern "C" fn zb_dhemm(
     let vb = view_of(bstart, brows, bcols, brs, bcs);
     let vc = view_of(cstart, crows, ccols, crs, ccs);
     if is_side_uplo(side, uplo) {
-        number(product_real64::hemm(
+        number(product_real64::hemm::hemm(
             side_of(side),
             uplo_of(uplo),
             Real64(alpha),
@@ -287,7 +287,7 @@ pub extern "C" fn zb_dsyrk(
     let va = view_of(astart, arows, acols, ars, acs);
     let vc = view_of(cstart, crows, ccols, crs, ccs);
     if is_uplo_trans(uplo, trans) {
-        number(product_real64::syrk(
+        number(product_real64::syrk::syrk(
             uplo_of(uplo),
             trans_of(trans),
             Real64(alpha),
@@ -327,7 +327,16 @@ pub extern "C" fn zb_dherk(
     let va = view_of(astart, arows, acols, ars, acs);
     let vc = view_of(cstart, crows, ccols, crs, ccs);
     if is_uplo_trans(uplo, trans) {
-        number(product_real64::herk(uplo_of(uplo), trans_of(trans), alpha, a, va, beta, c, vc))
+        number(product_real64::herk::herk(
+            uplo_of(uplo),
+            trans_of(trans),
+            alpha,
+            a,
+            va,
+            beta,
+            c,
+            vc,
+        ))
     } else {
         number(refuse2(va, a.len(), vc, c.len()))
     }
@@ -356,7 +365,7 @@ pub extern "C" fn zb_dher(
     let vx = view_of(xstart, xrows, xcols, xrs, xcs);
     let va = view_of(astart, arows, acols, ars, acs);
     if is_uplo(uplo) {
-        number(rank_real64::her(uplo_of(uplo), alpha, x, vx, a, va))
+        number(rank_real64::her::her(uplo_of(uplo), alpha, x, vx, a, va))
     } else {
         number(refuse2(vx, x.len(), va, a.len()))
     }
@@ -392,7 +401,7 @@ pub extern "C" fn zb_dher2(
     let vy = view_of(ystart, yrows, ycols, yrs, ycs);
     let va = view_of(astart, arows, acols, ars, acs);
     if is_uplo(uplo) {
-        number(rank_real64::her2(uplo_of(uplo), Real64(alpha), x, vx, y, vy, a, va))
+        number(rank_real64::her2::her2(uplo_of(uplo), Real64(alpha), x, vx, y, vy, a, va))
     } else {
         number(refuse3(vx, x.len(), vy, y.len(), va, a.len()))
     }
@@ -430,7 +439,7 @@ pub extern "C" fn zb_dsyr2k(
     let vb = view_of(bstart, brows, bcols, brs, bcs);
     let vc = view_of(cstart, crows, ccols, crs, ccs);
     if is_uplo_trans(uplo, trans) {
-        number(rank_real64::syr2k(
+        number(rank_real64::syr2k::syr2k(
             uplo_of(uplo),
             trans_of(trans),
             Real64(alpha),
@@ -479,7 +488,7 @@ pub extern "C" fn zb_dher2k(
     let vb = view_of(bstart, brows, bcols, brs, bcs);
     let vc = view_of(cstart, crows, ccols, crs, ccs);
     if is_uplo_trans(uplo, trans) {
-        number(rank_real64::her2k(
+        number(rank_real64::her2k::her2k(
             uplo_of(uplo),
             trans_of(trans),
             Real64(alpha),
@@ -520,7 +529,15 @@ pub extern "C" fn zb_dtrmv(
     let va = view_of(astart, arows, acols, ars, acs);
     let vx = view_of(xstart, xrows, xcols, xrs, xcs);
     if is_uplo_trans_diag(uplo, trans, diag) {
-        number(triangle_real64::trmv(uplo_of(uplo), trans_of(trans), diag_of(diag), a, va, x, vx))
+        number(triangle_real64::trmv::trmv(
+            uplo_of(uplo),
+            trans_of(trans),
+            diag_of(diag),
+            a,
+            va,
+            x,
+            vx,
+        ))
     } else {
         number(refuse2(va, a.len(), vx, x.len()))
     }
@@ -550,7 +567,15 @@ pub extern "C" fn zb_dtrsv(
     let va = view_of(astart, arows, acols, ars, acs);
     let vx = view_of(xstart, xrows, xcols, xrs, xcs);
     if is_uplo_trans_diag(uplo, trans, diag) {
-        number(triangle_real64::trsv(uplo_of(uplo), trans_of(trans), diag_of(diag), a, va, x, vx))
+        number(triangle_real64::trsv::trsv(
+            uplo_of(uplo),
+            trans_of(trans),
+            diag_of(diag),
+            a,
+            va,
+            x,
+            vx,
+        ))
     } else {
         number(refuse2(va, a.len(), vx, x.len()))
     }
@@ -582,7 +607,7 @@ pub extern "C" fn zb_dtrmm(
     let va = view_of(astart, arows, acols, ars, acs);
     let vb = view_of(bstart, brows, bcols, brs, bcs);
     if is_side_uplo_trans_diag(side, uplo, trans, diag) {
-        number(triangle_real64::trmm(
+        number(triangle_real64::trmm::trmm(
             side_of(side),
             uplo_of(uplo),
             trans_of(trans),
@@ -624,7 +649,7 @@ pub extern "C" fn zb_dtrsm(
     let va = view_of(astart, arows, acols, ars, acs);
     let vb = view_of(bstart, brows, bcols, brs, bcs);
     if is_side_uplo_trans_diag(side, uplo, trans, diag) {
-        number(triangle_real64::trsm(
+        number(triangle_real64::trsm::trsm(
             side_of(side),
             uplo_of(uplo),
             trans_of(trans),

@@ -41,13 +41,13 @@ fn call(body: &[u8], a: &[f64], b: &[f64], c: &mut [f64]) -> u8 {
     let t = trans(body, 1);
     let u = uplo(body, 1);
     match routine(body) {
-        0 => number(product_complex::gemv(trans(body, 0), p, a, va, b, vb, q, c, vc)),
-        1 => number(product_complex::hemv(uplo(body, 0), p, a, va, b, vb, q, c, vc)),
-        6 => number(product_complex::gemm(trans(body, 0), t, p, a, va, b, vb, q, c, vc)),
-        7 => number(product_complex::symm(side(body, 0), u, p, a, va, b, vb, q, c, vc)),
-        8 => number(product_complex::hemm(side(body, 0), u, p, a, va, b, vb, q, c, vc)),
-        9 => number(product_complex::syrk(uplo(body, 0), t, p, a, va, q, c, vc)),
-        10 => number(product_complex::herk(uplo(body, 0), t, x, a, va, y, c, vc)),
+        0 => number(product_complex::gemv::gemv(trans(body, 0), p, a, va, b, vb, q, c, vc)),
+        1 => number(product_complex::hemv::hemv(uplo(body, 0), p, a, va, b, vb, q, c, vc)),
+        6 => number(product_complex::gemm::gemm(trans(body, 0), t, p, a, va, b, vb, q, c, vc)),
+        7 => number(product_complex::symm::symm(side(body, 0), u, p, a, va, b, vb, q, c, vc)),
+        8 => number(product_complex::hemm::hemm(side(body, 0), u, p, a, va, b, vb, q, c, vc)),
+        9 => number(product_complex::syrk::syrk(uplo(body, 0), t, p, a, va, q, c, vc)),
+        10 => number(product_complex::herk::herk(uplo(body, 0), t, x, a, va, y, c, vc)),
         _ => 255,
     }
 }

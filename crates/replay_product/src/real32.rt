@@ -41,13 +41,13 @@ fn call(body: &[u8], a: &[f32], b: &[f32], c: &mut [f32]) -> u8 {
     let t = trans(body, 1);
     let u = uplo(body, 1);
     match routine(body) {
-        0 => number(product_real32::gemv(trans(body, 0), p, a, va, b, vb, q, c, vc)),
-        1 => number(product_real32::hemv(uplo(body, 0), p, a, va, b, vb, q, c, vc)),
-        6 => number(product_real32::gemm(trans(body, 0), t, p, a, va, b, vb, q, c, vc)),
-        7 => number(product_real32::symm(side(body, 0), u, p, a, va, b, vb, q, c, vc)),
-        8 => number(product_real32::hemm(side(body, 0), u, p, a, va, b, vb, q, c, vc)),
-        9 => number(product_real32::syrk(uplo(body, 0), t, p, a, va, q, c, vc)),
-        10 => number(product_real32::herk(uplo(body, 0), t, x, a, va, y, c, vc)),
+        0 => number(product_real32::gemv::gemv(trans(body, 0), p, a, va, b, vb, q, c, vc)),
+        1 => number(product_real32::hemv::hemv(uplo(body, 0), p, a, va, b, vb, q, c, vc)),
+        6 => number(product_real32::gemm::gemm(trans(body, 0), t, p, a, va, b, vb, q, c, vc)),
+        7 => number(product_real32::symm::symm(side(body, 0), u, p, a, va, b, vb, q, c, vc)),
+        8 => number(product_real32::hemm::hemm(side(body, 0), u, p, a, va, b, vb, q, c, vc)),
+        9 => number(product_real32::syrk::syrk(uplo(body, 0), t, p, a, va, q, c, vc)),
+        10 => number(product_real32::herk::herk(uplo(body, 0), t, x, a, va, y, c, vc)),
         _ => 255,
     }
 }

@@ -37,10 +37,10 @@ fn call(body: &[u8], a: &[f64], b: &[f64], c: &mut [f64]) -> u8 {
     let vb = view(body, 1);
     let vc = view(body, target(body));
     match routine(body) {
-        2 => number(rank_real64::her(u, scalar(body, 0), a, va, c, vc)),
-        3 => number(rank_real64::her2(u, p, a, va, b, vb, c, vc)),
-        11 => number(rank_real64::syr2k(u, t, p, a, va, b, vb, beta(body), c, vc)),
-        12 => number(rank_real64::her2k(u, t, p, a, va, b, vb, scalar(body, 2), c, vc)),
+        2 => number(rank_real64::her::her(u, scalar(body, 0), a, va, c, vc)),
+        3 => number(rank_real64::her2::her2(u, p, a, va, b, vb, c, vc)),
+        11 => number(rank_real64::syr2k::syr2k(u, t, p, a, va, b, vb, beta(body), c, vc)),
+        12 => number(rank_real64::her2k::her2k(u, t, p, a, va, b, vb, scalar(body, 2), c, vc)),
         _ => 255,
     }
 }

@@ -32,10 +32,10 @@ fn call(body: &[u8], a: &[f64], b: &mut [f64]) -> u8 {
     let d = recorded_calls::diag(body, 2);
     let d3 = recorded_calls::diag(body, 3);
     match routine(body) {
-        4 => number(triangle_complex::trmv(u, t, d, a, va, b, vb)),
-        5 => number(triangle_complex::trsv(u, t, d, a, va, b, vb)),
-        13 => number(triangle_complex::trmm(s, u1, t2, d3, p, a, va, b, vb)),
-        14 => number(triangle_complex::trsm(s, u1, t2, d3, p, a, va, b, vb)),
+        4 => number(triangle_complex::trmv::trmv(u, t, d, a, va, b, vb)),
+        5 => number(triangle_complex::trsv::trsv(u, t, d, a, va, b, vb)),
+        13 => number(triangle_complex::trmm::trmm(s, u1, t2, d3, p, a, va, b, vb)),
+        14 => number(triangle_complex::trsm::trsm(s, u1, t2, d3, p, a, va, b, vb)),
         _ => 255,
     }
 }

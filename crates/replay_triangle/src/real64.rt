@@ -32,10 +32,10 @@ fn call(body: &[u8], a: &[f64], b: &mut [f64]) -> u8 {
     let d = recorded_calls::diag(body, 2);
     let d3 = recorded_calls::diag(body, 3);
     match routine(body) {
-        4 => number(triangle_real64::trmv(u, t, d, a, va, b, vb)),
-        5 => number(triangle_real64::trsv(u, t, d, a, va, b, vb)),
-        13 => number(triangle_real64::trmm(s, u1, t2, d3, p, a, va, b, vb)),
-        14 => number(triangle_real64::trsm(s, u1, t2, d3, p, a, va, b, vb)),
+        4 => number(triangle_real64::trmv::trmv(u, t, d, a, va, b, vb)),
+        5 => number(triangle_real64::trsv::trsv(u, t, d, a, va, b, vb)),
+        13 => number(triangle_real64::trmm::trmm(s, u1, t2, d3, p, a, va, b, vb)),
+        14 => number(triangle_real64::trsm::trsm(s, u1, t2, d3, p, a, va, b, vb)),
         _ => 255,
     }
 }
