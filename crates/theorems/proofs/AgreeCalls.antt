@@ -325,6 +325,11 @@ strip-shown K L side v n w s e u q h = at side (subst (λ (m : ℕ). q < m) (sym
     at Left p l = shown q 0 p l
     at Right p l = shown 0 q l p
 
+-- the same outcome has the same unknowns
+pub unknown-same : {K : Kind} (L : Laws K) {s s' : List (K .Cell)} → SameOutcome K (worked K s) (worked K s') → (side : Side) (v : View) (q : ℕ)
+    → Same K (unknown K side s v q 0) (unknown K side s' v q 0)
+unknown-same L o side v q = L .slab .at-same (unknownAt side v q 0) (o .slab)
+
 -- ---- slabs
 
 -- slabs of zeros, of every size

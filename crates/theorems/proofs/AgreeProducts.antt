@@ -24,7 +24,7 @@ use Rattle.slab.specs.Elem.{Lent, lent}
 use Rattle.slab.specs.Update.{Mask, everywhere, update}
 use Rattle.slab.proofs.UpdateLaws.{update-same-slab}
 use Rattle.blas.specs.Matrix.{Matrix, matrix, vector, op, symmetric, hermitian, sum, accumulate}
-use Rattle.blas.specs.Substitution.{unknownAt, unknown}
+use Rattle.blas.specs.Substitution.{unknown}
 use Rattle.blas.specs.Gemv.{gemv}
 use Rattle.blas.specs.Gemm.{gemm}
 use Rattle.blas.specs.Hemv.{hemv}
@@ -34,7 +34,7 @@ use Rattle.theorems.specs.Agreement.{General, Square, SameShape, wholeMa
 use Rattle.theorems.specs.ExactProducts.{onSide}
 use Rattle.theorems.proofs.Respects.{Below, Fit, same-respected, sum-respects, Reading, Faithful, reading-by, same-shown, op-same, op-le, op-faithful, symmetric-faithful, hermitian-faithful}
 use Rattle.theorems.proofs.Triangles.{times, times-cong, unknownIn, unknown-lt, beside}
-use Rattle.theorems.proofs.AgreeCalls.{Routine, worked, Plain, updated, updates-see, Picks, sum-picks, line, strip, line-index, Fair, strip-fair, vector-line, line-column-index, shaped-as, Strip, strip-strip, vector-strip, rowAt, colAt, strip-shown, Zeros, UnitIn, unitSlab, unit-count, unit-held, unit-size, unit-picks}
+use Rattle.theorems.proofs.AgreeCalls.{Routine, worked, Plain, updated, updates-see, Picks, sum-picks, line, strip, line-index, Fair, strip-fair, vector-line, line-column-index, shaped-as, Strip, strip-strip, vector-strip, rowAt, colAt, strip-shown, unknown-same, Zeros, UnitIn, unitSlab, unit-count, unit-held, unit-size, unit-picks}
 
 -- ---- A on a side of the other factor
 
@@ -227,7 +227,7 @@ module _ {K : Kind} (L : Laws K) (Z : Zeros K) (f : Factors K) (Form : View → 
               same-shown K L (f .reading) (s .row) (s .col) r c (s .shows) a a'
               (rw (m .4 (f .reading K a), m .4 (f .reading K a')) at
               (L .same-trans (L .same-sym (value v b (m .1) (m .3) v a (b .shapes) refl fit (m .0) hu))
-              (L .same-trans (L .slab .at-same (unknownAt (f .side) (f .written (b .target)) (m .0) 0) (o .slab))
+              (L .same-trans (unknown-same L o (f .side) (f .written (b .target)) (m .0))
               (value v b (m .1) (m .3) v' a' (sym (P .shapes-same v v' (b .rhs) (b .target) w) ∙ b .shapes) (sym (P .terms-same v v' (b .target) w)) fit' (m .0) hu))));
         };
   }

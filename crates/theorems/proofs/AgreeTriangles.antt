@@ -31,7 +31,7 @@ use Rattle.theorems.specs.Agreement.{SameOutcome, SameShape, Square, See
 use Rattle.theorems.specs.TriangularAgreement.{named, Single, runPlain, runScaled}
 use Rattle.theorems.proofs.Respects.{Below, Fit, same-respected}
 use Rattle.theorems.proofs.Triangles.{coefficient, rowIn, colIn, in-both, named-back, element-back, coefficient-holds, coefficient-finite, takes, named-takes, entry-named, entry-by, productAt, product-respects, unknownIn, unknown-lt, beside, dot-is}
-use Rattle.theorems.proofs.AgreeCalls.{Routine, worked, Plain, updates-see, Picks, over-picks, line, strip, strip-fair, vector-line, shaped-as, Strip, strip-strip, vector-strip, rowAt, colAt, strip-shown, Zeros, unitSlab, unit-count, unit-held, unit-size, unit-picks}
+use Rattle.theorems.proofs.AgreeCalls.{Routine, worked, Plain, updates-see, Picks, over-picks, line, strip, strip-fair, vector-line, shaped-as, Strip, strip-strip, vector-strip, rowAt, colAt, strip-shown, unknown-same, Zeros, unitSlab, unit-count, unit-held, unit-size, unit-picks}
 
 -- ---- a routine that multiplies or solves in place
 
@@ -206,7 +206,7 @@ module _ (K : Kind) (L : Laws K) (side : Side) (uplo : UpLo) (t : Trans) (diag :
         tells = λ a' h' o.
             element-back K L side t r c a a'
             (L .same-trans (L .same-sym (multiplied-shows a v n w s count q p hq hp h u m'))
-            (L .same-trans (L .slab .at-same (unknownAt side v q 0) (o .slab)) (multiplied-shows a' v n w s count q p hq hp h' u m')));
+            (L .same-trans (unknown-same L o side v q) (multiplied-shows a' v n w s count q p hq hp h' u m')));
       }
 
 -- ---- trmv and trmm

@@ -142,10 +142,17 @@ takes-order Right uplo t q p = turned (opUpper uplo t)
     turned true = refl
     turned false = refl
 
--- named elements: those of the triangle that are read, off the diagonal or under NonUnit on it too
+-- named elements: under NonUnit all of the triangle, under Unit none of the diagonal
+whole-named : (uplo : UpLo) (i j : ℕ) → inTriangle uplo i j ≡ true → named uplo NonUnit i j ≡ true
+whole-named uplo i j h = h
+
+named-unit : (uplo : UpLo) (i j : ℕ) → named uplo Unit i j ≡ true → (inTriangle uplo i j ≡ true) × (i ≡ j → ⊥)
+named-unit uplo i j h =
+    (and-left (triangle uplo i j) (not (eqb i j)) h, λ e. clash (and-right (triangle uplo i j) (not (eqb i j)) h) (ap not (eq-eqb i j e)))
+
 named-triangle : (uplo : UpLo) (diag : Diag) (i j : ℕ) → named uplo diag i j ≡ true → inTriangle uplo i j ≡ true
 named-triangle uplo NonUnit i j h = h
-named-triangle uplo Unit i j h = and-left (triangle uplo i j) (not (eqb i j)) h
+named-triangle uplo Unit i j h = named-unit uplo i j h .0
 
 pub named-takes : (side : Side) (uplo : UpLo) (t : Trans) (diag : Diag) (q p : ℕ) → named uplo diag (rowIn side t q p) (colIn side t q p) ≡ true →
     takes side uplo t q p ≡ true
@@ -162,9 +169,7 @@ off-diagonal side uplo t q p h o =
     (not-equal (rowIn side t q p) (colIn side t q p) (in-both (λ i j. i ≡ j → ⊥) side t q p o (λ e. o (sym e))))
 
 pub named-off : (side : Side) (uplo : UpLo) (t : Trans) (q p : ℕ) → named uplo Unit (rowIn side t q p) (colIn side t q p) ≡ true → q ≡ p → ⊥
-named-off side uplo t q p h e =
-    clash (and-right (triangle uplo (rowIn side t q p) (colIn side t q p)) (not (eqb (rowIn side t q p) (colIn side t q p))) h)
-    (ap not (eq-eqb (rowIn side t q p) (colIn side t q p) (in-both (λ i j. i ≡ j) side t q p e (sym e))))
+named-off side uplo t q p h e = named-unit uplo _ _ h .1 (in-both (λ i j. i ≡ j) side t q p e (sym e))
 
 -- ---- an element of op(A)'s triangle, as unknown q takes it from unknown p
 
@@ -191,7 +196,7 @@ data Read (side : Side) (uplo : UpLo) (t : Trans) (diag : Diag) (q p : ℕ) : Ty
       (takes side uplo t q p ≡ true → named uplo diag (rowIn side t q p) (colIn side t q p) ≡ true) → Read side uplo t diag q p
 
 reads : (side : Side) (uplo : UpLo) (t : Trans) (diag : Diag) (q p : ℕ) → Read side uplo t diag q p
-reads side uplo t NonUnit q p = coefficient-there (λ K a. entry-whole K side t a q p) (λ h. sym (takes-triangle side uplo t q p) ∙ h)
+reads side uplo t NonUnit q p = coefficient-there (λ K a. entry-whole K side t a q p) (λ h. whole-named uplo _ _ (sym (takes-triangle side uplo t q p) ∙ h))
 reads side uplo t Unit q p = at (ℕ-discrete q p)
   where
     at : Dec (q ≡ p) → Read side uplo t Unit q p
