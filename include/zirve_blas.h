@@ -1,4 +1,4 @@
-/* zirve-blas: dense BLAS kernels, proved. Link with libcapi.a.
+/* zirve-blas: dense BLAS kernels, proved. Link with libzirve_blas.a.
  *
  * Every function answers 0 or the number of a refusal:
  *   1  a view has more than 64 rows or columns
