@@ -67,12 +67,6 @@ pub fn u16_at(s: &[u8], at: usize) -> u16
     half_at(s, at, 0) as u16
 }
 
-pub fn u32_at(s: &[u8], at: usize) -> u32
-    ensures { λ r. ⌜ r ≡ word (now (s .entry)) at 0 ⌝ }
-{
-    word_at(s, at, 0) as u32
-}
-
 pub fn u64_at(s: &[u8], at: usize) -> u64
     ensures { λ r. ⌜ r ≡ double (now (s .entry)) at 0 ⌝ }
 {

@@ -6,7 +6,8 @@ use crate::bytes::u64_at;
 // `ZBLIST01` as a number.
 const FORMAT: u64 = 0x3130_5453_494c_425a;
 
-// A list that is being replayed: its file, its records and how many of them are left, and for each routine and kind how many calls were made and how many agreed.
+// A list that is being replayed: its file, the number of its records and of those that are left, and for each routine and
+// kind how many calls were made and how many agreed.
 pub struct List {
     pub fd: i32,
     pub records: u64,
