@@ -6,18 +6,11 @@ use Rattle.capi_real32.proofs.zb_strmv.Tie as tie
 pub zb-strmv-spec : {M : Type 1} → statement M
 zb-strmv-spec = tie.close (tie.spec
     (λ c κs. tt) (λ c κs. tt) (λ c κs. tt) (λ c κs. tt) (λ c κs. tt) (λ c κs. tt) (λ c κs. tt) (λ c κs. tt) (λ c κs. tt) (λ c κs. tt) (λ c. search needs)
-    (λ c. let s = c .before .before .before .before .before .before .before .before in let v = s .before .before in let f = v .before .before .before .before .fits in
-    called _ _ (s .before .is-uplo-trans-diag .ensures) (s .if1 .taken)
-    (rw (
-      c .before .before .before .before .before .before .before .uplo-of .ensures,
-      c .before .before .before .before .before .before .trans-of .ensures,
-      c .before .before .before .before .before .diag-of .ensures,
-      view-is (f .ars) (f .acs) (v .before .view-of .ensures),
-      view-is (f .xrs) (f .xcs) (v .view-of2 .ensures),
-    )
-    at (c .before .before .before .trmv .ensures)) (c .number .ensures))
+    (λ c. let g = c .before .before .before .before .before in let s = g .before .before .before in let v = s .before .before in
+    let f = v .before .before .before .before .fits in let va = view-is (f .ars) (f .acs) (v .before .view-of .ensures) in
+    let vx = view-is (f .xrs) (f .xcs) (v .view-of2 .ensures) in called _ _ (s .before .is-uplo-trans-diag .ensures) (s .if1 .taken)
+    (rw (g .before .before .uplo-of .ensures, g .before .trans-of .ensures, g .diag-of .ensures, va, vx) at (c .before .before .before .trmv .ensures))
+    (c .number .ensures))
     (λ c. let s = c .before .before in let v = s .before .before in let f = v .before .before .before .before .fits in
-    refused _ (s .before .is-uplo-trans-diag .ensures) (s .if1 .left) (rw (
-      view-is (f .ars) (f .acs) (v .before .view-of .ensures),
-      view-is (f .xrs) (f .xcs) (v .view-of2 .ensures),
-    ) at (c .before .refuse2 .ensures)) (c .number2 .ensures)))
+    let va = view-is (f .ars) (f .acs) (v .before .view-of .ensures) in let vx = view-is (f .xrs) (f .xcs) (v .view-of2 .ensures) in
+    refused _ (s .before .is-uplo-trans-diag .ensures) (s .if1 .left) (rw (va, vx) at (c .before .refuse2 .ensures)) (c .number2 .ensures)))

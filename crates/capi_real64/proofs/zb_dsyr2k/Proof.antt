@@ -6,19 +6,12 @@ use Rattle.capi_real64.proofs.zb_dsyr2k.Tie as tie
 pub zb-dsyr2k-spec : {M : Type 1} → statement M
 zb-dsyr2k-spec = tie.close (tie.spec
     (λ c κs. tt) (λ c κs. tt) (λ c κs. tt) (λ c κs. tt) (λ c κs. tt) (λ c κs. tt) (λ c κs. tt) (λ c κs. tt) (λ c κs. tt) (λ c κs. tt) (λ c. search needs)
-    (λ c. let s = c .before .before .before .before .before .before .before in let v = s .before .before in let f = v .before .before .before .before .before .before .fits in
-    called _ _ (s .before .is-uplo-trans .ensures) (s .if1 .taken) (rw (
-      c .before .before .before .before .before .before .uplo-of .ensures,
-      c .before .before .before .before .before .trans-of .ensures,
-      view-is (f .ars) (f .acs) (v .before .before .view-of .ensures),
-      view-is (f .brs) (f .bcs) (v .before .view-of2 .ensures),
-      view-is (f .crs) (f .ccs) (v .view-of3 .ensures),
-    )
-    at (c .before .before .before .syr2k .ensures)) (c .number .ensures))
+    (λ c. let g = c .before .before .before .before .before in let s = g .before .before in let v = s .before .before in
+    let f = v .before .before .before .before .before .before .fits in let va = view-is (f .ars) (f .acs) (v .before .before .view-of .ensures) in
+    let vb = view-is (f .brs) (f .bcs) (v .before .view-of2 .ensures) in let vc = view-is (f .crs) (f .ccs) (v .view-of3 .ensures) in
+    called _ _ (s .before .is-uplo-trans .ensures) (s .if1 .taken)
+    (rw (g .before .uplo-of .ensures, g .trans-of .ensures, va, vb, vc) at (c .before .before .before .syr2k .ensures)) (c .number .ensures))
     (λ c. let s = c .before .before in let v = s .before .before in let f = v .before .before .before .before .before .before .fits in
-    refused _ (s .before .is-uplo-trans .ensures) (s .if1 .left) (rw (
-      view-is (f .ars) (f .acs) (v .before .before .view-of .ensures),
-      view-is (f .brs) (f .bcs) (v .before .view-of2 .ensures),
-      view-is (f .crs) (f .ccs) (v .view-of3 .ensures),
-    ) at (c .before .refuse3 .ensures))
-    (c .number2 .ensures)))
+    let va = view-is (f .ars) (f .acs) (v .before .before .view-of .ensures) in let vb = view-is (f .brs) (f .bcs) (v .before .view-of2 .ensures) in
+    let vc = view-is (f .crs) (f .ccs) (v .view-of3 .ensures) in refused _ (s .before .is-uplo-trans .ensures) (s .if1 .left)
+    (rw (va, vb, vc) at (c .before .refuse3 .ensures)) (c .number2 .ensures)))
