@@ -45,14 +45,14 @@ $(ARCHIVE): $(PARTS) | need-cc
 used = $(shell awk -F: -v want=$(1) '{ uses[$$1] = $$2 } END { n = split(want, q, " "); \
 	for (i = 1; i <= n; i++) if (q[i] in uses && !seen[q[i]]++) { print q[i]; m = split(uses[q[i]], d, " "); for (k = 1; k <= m; k++) q[++n] = d[k] } }' crates.txt)
 
-# Built again when a crate that it uses has changed. Those under it are proved first, two at a time; for the whole archive, those under every part.
+# Built again when a crate that it uses has changed. Those under it are proved first, those of a level together; for the whole archive, those under every part.
 $(ARCHIVE): MADE = $(KINDS)
 
 .SECONDEXPANSION:
 $(PARTS): target/staticlib/libcapi_%.a: $$(shell find $$(addprefix crates/,$$(call used,capi_$$*)) -name '*.rt' -o -name '*.antt') | need-rt
 	@mkdir -p target
 	@echo "Proving the kernels of $* and building $@ (some minutes from nothing) .."
-	@{ rt check $(sort $(foreach k,$(or $(MADE),$*),$(filter-out capi_$(k),$(call used,capi_$(k))))) && rt staticlib capi_$*; } > target/capi_$*.log 2>&1 \
+	@{ RT_JOBS=4 rt check $(sort $(foreach k,$(or $(MADE),$*),$(filter-out capi_$(k),$(call used,capi_$(k))))) && rt staticlib capi_$*; } > target/capi_$*.log 2>&1 \
 		|| { tail -n 20 target/capi_$*.log; echo "not proved; target/capi_$*.log has the whole report" >&2; exit 1; }
 	@touch $@
 

@@ -10,8 +10,7 @@ pub plus-eight-spec : {M : Type 1} → statement M
 plus-eight-spec = tie.close (tie.spec
     Inv-loop (λ x s v p j next₀ t₀ next t. 8 - t)
     (λ c. part-start real32 (real-slab binary32) _ _ (good-length (eFloat binary32) 8 (c .before .args .sums) _ (c .before .good .1 .1 .1 .1 .1 .0)))
-    (omega arith) (omega arith) (omega arith)
-    (λ c κs. let h = c .before .before .before .pre in record { fits = h .fits; row = h .row; col = omega (arith, h .col) }) (search) (search)
+    (omega arith) (omega arith) (omega arith) (λ c κs. let h = c .before .before .before .pre in record { fits = h .fits; row = h .row; col = omega (arith, h .col) }) (search) (search)
     (omega arith) (omega arith) (omega arith) (omega arith)
     (λ c. let l = c .before .before .before .before .loop in
     part-next real32 (real-slab binary32) _ _ (l .next) (l .t) _ (omega arith) (l .inv)
