@@ -2,7 +2,6 @@
 pub use Prim.Native.Nat.{_+_, _-_, _≤_}
 pub use mathlib.Core.Path.{_∙_, _≡_, ap, refl, sym}
 pub use native.Mathlib.Omega.{arith}
-pub use lib.Ieee.{binary64}
 pub use lib.ListN.{length}
 pub use mir.Facts.{toZ-ofZ}
 pub use mir.Syntax.{w64}

@@ -1,5 +1,5 @@
 -- Eight sums, and part of the eight elements settled with them (Eights: sums-whole, block-settled).
-use Rattle.product_real32.proofs.Words.{refl, arith, binary32, now, needs, product, spans, sums-whole, block-settled, K, scaleBy, value}
+use Rattle.product_real32.proofs.Words.{refl, arith, now, needs, product, spans, sums-whole, block-settled, K, scaleBy, value}
 use Rattle.product_real32.proofs.element.block.Statement.{statement}
 use Rattle.product_real32.proofs.element.block.Tie as tie
 
