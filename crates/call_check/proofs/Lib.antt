@@ -1,10 +1,3 @@
--- Lemmas that several proofs cite; the kernels' cite Passes and Ops.
-mod Vectors
+-- Lemmas that several proofs cite.
 mod Parts
-mod Runs
-mod Sizes
-mod Views
-pub mod Passes
-pub mod Ops
-mod Ordinary
 mod Words

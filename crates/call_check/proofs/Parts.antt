@@ -1,26 +1,13 @@
--- A view and the parts of it that machine integers carry, a judgement of such views, an answer and its number.
+-- A judgement of equal views, an answer and its number.
 use mathlib.Core.Path.{_≡_, refl}
 use mathlib.Core.Bool.{Bool, true, false, not, _||_}
 use mathlib.Core.List.{[], _∷_}
 use Prim.Native.Nat.{ℕ}
-use lib.IntN.{ℤ}
-use mir.Syntax.{w64}
-use mir.Val.{SFits, toZ, ofZ}
-use mir.Facts.{toZ-ofZ}
 use Rattle.view.specs.declared.View.{View}
 use Rattle.view.specs.declared.Answer.{Answer}
 use Rattle.view.specs.declared.Answer.the-variants.{Done, TooLarge, OutOfBounds, ShapeMismatch, Overlap, Singular}
 use Rattle.view.specs.Refusals.{tooLarge, outOfBounds}
-use Rattle.view.specs.Place.{viewOf}
 use Rattle.view.specs.Judge.{answerNumber, answerOf, arg, judge, lowestOf}
-
--- ---- a view and its parts: a signed part arrives as its bits
-
-pub view-back : (start rows cols : ℕ) (rs cs : ℤ) → SFits w64 rs → SFits w64 cs → viewOf start rows cols (toZ w64 (ofZ w64 rs)) (toZ w64 (ofZ w64 cs)) ≡ viewOf start rows cols rs cs
-view-back start rows cols rs cs p q i = viewOf start rows cols (toZ-ofZ {w = w64} {z = rs} p i) (toZ-ofZ {w = w64} {z = cs} q i)
-
-pub parts-are : (v : View) → SFits w64 (v .rs) → SFits w64 (v .cs) → viewOf (v .start) (v .rows) (v .cols) (toZ w64 (ofZ w64 (v .rs))) (toZ w64 (ofZ w64 (v .cs))) ≡ v
-parts-are v p q = view-back (v .start) (v .rows) (v .cols) (v .rs) (v .cs) p q
 
 -- ---- judgements
 

@@ -1,4 +1,4 @@
--- A stride's parts and its steps, as machine integers work them out.
+-- A stride's parts and its steps, as machine integers work them out; a view and its parts.
 use mathlib.Core.Path.{_≡_, refl, sym, _∙_, ap, subst}
 use mathlib.Core.Bool.{true, false}
 use Prim.Native.Nat.{ℕ, suc, _+_, _^_, _≤_, _<_}
@@ -7,9 +7,12 @@ use lib.Dec.{T, ltb}
 use lib.IntN.{ℤ, pos, negsuc, natAbs, subℕ, _-ℤ_}
 use lib.Signed.{ltZ, nonNeg}
 use mir.Syntax.{w64}
-use mir.Val.{Fits, SFits}
+use mir.Val.{Fits, SFits, toZ, ofZ}
+use mir.Facts.{toZ-ofZ}
 use borrow.Author.Tests.{ltb-true}
 use Rattle.view.proofs.AnyLaws.{clash}
+use Rattle.view.specs.declared.View.{View}
+use Rattle.view.specs.Place.{viewOf}
 use Rattle.view.specs.Steps.{up, down}
 use Rattle.view.proofs.Signs.{diff-of, diff-abs, diff-nat}
 
@@ -59,3 +62,11 @@ less-is (negsuc n) h = ap (λ (z : ℤ). natAbs z + 1) (below-is n) ∙ one n
 pub size-fits : (z : ℤ) → SFits w64 z → up z + down z ≤ 2 ^ 63
 size-fits (pos n) f = omega (arith, f .sfits)
 size-fits (negsuc n) f = omega (arith, f .sfits)
+
+-- ---- a view and its parts: a signed part arrives as its bits
+
+pub view-back : (start rows cols : ℕ) (rs cs : ℤ) → SFits w64 rs → SFits w64 cs → viewOf start rows cols (toZ w64 (ofZ w64 rs)) (toZ w64 (ofZ w64 cs)) ≡ viewOf start rows cols rs cs
+view-back start rows cols rs cs p q i = viewOf start rows cols (toZ-ofZ {w = w64} {z = rs} p i) (toZ-ofZ {w = w64} {z = cs} q i)
+
+pub parts-are : (v : View) → SFits w64 (v .rs) → SFits w64 (v .cs) → viewOf (v .start) (v .rows) (v .cols) (toZ w64 (ofZ w64 (v .rs))) (toZ w64 (ofZ w64 (v .cs))) ≡ v
+parts-are v p q = view-back (v .start) (v .rows) (v .cols) (v .rs) (v .cs) p q
