@@ -18,7 +18,7 @@ pub use Rattle.product_plan.proofs.Kernels.{gemm-done, gemm-planned, gemm-refus
 pub use Rattle.product_plan.proofs.Ready.{accepted-kept, eight-turns, folded-kept, nearer, ready-kept, spans}
 pub use Rattle.product_plan.proofs.Rows.{entry-put, put-replaced, row-columns, span-last}
 pub use Rattle.product_plan.proofs.Sums.{after-turn, before-turn, folded-sum, plus-end, plus-start, real-next, sum-whole}
-pub use Rattle.product_plan.specs.Plan.{foldedChange, foldedProduct, foldedTerm, planChange, product, term, turnedSum}
+pub use Rattle.product_plan.specs.Plan.{foldedChange, foldedTerm, planChange, product, term, turnedSum}
 pub use Rattle.slab.proofs.EightLaws.{Part, part-end, part-next, part-start}
 pub use Rattle.slab.proofs.LoopLaws.{column-next, put-next, row-last, row-begun, rows-last, rows-next, rows-span-end, rows-span-next, rows-span-start, rows-begun, span-after, span-end, span-next, span-on, span-start}
 pub use Rattle.slab.proofs.Shown.{beside, inside, shown}

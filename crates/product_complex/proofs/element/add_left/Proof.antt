@@ -1,5 +1,5 @@
 -- The sum is the run so far; each turn adds one term, its right factor not conjugated (Sums: left-next, plus-end).
-use Rattle.product_complex.proofs.Words.{_≤_, _-_, _≡_, arith, now, plusTerms, term, plus-start, plus-end, left-next, K}
+use Rattle.product_complex.proofs.Words.{needs, _≤_, _-_, _≡_, arith, plusTerms, term, plus-start, plus-end, left-next, K}
 use Rattle.product_complex.proofs.element.add_left.Statement.{statement}
 use Rattle.product_complex.proofs.element.add_left.Tie as tie
 
@@ -8,9 +8,8 @@ Inv-loop f a b i j from end total₀ p₀ total p = (from ≤ p) × (p ≤ end) 
 
 pub add-left-spec : {M : Type 1} → statement M
 add-left-spec = tie.close (tie.spec
-    Inv-loop (λ f a b i j from end total₀ p₀ total p. end - p) (λ c. (omega arith, c .before .before .pre .0 .ordered, plus-start K _ _ _))
+    Inv-loop (λ f a b i j from end total₀ p₀ total p. end - p) (λ c. (omega arith, search needs, plus-start K _ _ _))
     (λ c κs. c .before .before .before .before .pre .0 .left _ (omega arith))
     (λ c κs. c .before .before .before .before .before .pre .0 .right _ (omega arith)) (λ c κs. tt) (λ c κs. tt) (λ c. omega arith) (λ c. omega arith)
-    (λ c. let p = c .before .before .before .before .before .before .before .before .args in
-    (omega arith, omega arith, left-next K (p .f) (now (p .a)) (now (p .b)) (p .i) (p .j) _ _ _ _ _ _ _ _ (c .before .before .before .before .before .loop .inv .0) (c .before .before .before .before .before .before .before .before .pre .1) (c .before .before .before .before .before .loop .inv .2) (c .before .before .before .elem-conj .ensures) (c .before .before .elem .ensures) (c .before .mul .ensures) (c .add .ensures)))
-    (λ c. plus-end K _ _ _ _ _ _ (c .before .loop .inv .1) (omega arith) (c .before .loop .inv .2)))
+    (λ c. (omega arith, omega arith, search (left-next K)))
+    (λ c. search (plus-end K)))

@@ -6,5 +6,5 @@ use Rattle.product_complex.proofs.element.folded_entry.Tie as tie
 pub folded-entry-spec : {M : Type 1} → statement M
 folded-entry-spec = tie.close (tie.spec
     (λ c κs. c .before .before .before .pre .0 .reads .turns _ _ (c .before .before .before .pre .1) (c .before .before .before .pre .2))
-    (λ c κs. (c .before .before .before .before .before .pre .0, c .before .before .before .before .before .pre .1, c .before .before .before .before .before .pre .2, c .before .turn-at .ensures))
-    (λ c. search needs) (λ c. c .before .before .turned-entry .ensures))
+    (λ c κs. (search needs, search needs, search needs, search needs))
+    (λ c. search needs) (λ c. search needs))

@@ -3,10 +3,10 @@ use Rattle.product_complex.proofs.Words.{arith, now, needs, times, show
 use Rattle.product_complex.proofs.element.settle.Statement.{statement}
 use Rattle.product_complex.proofs.element.settle.Tie as tie
 
+returns : tie.Need-returns
+returns c = let p = c .before .before .before .before .before .before .before .before .before .before .before .args in put-replaced K (p .v) (p .i) (p .j) (scaleBy (p .beta)) (times (p .alpha)) (p .sum) (now (p .c)) _ _ _ _ _ _ (c .before .before .before .before .before .before .before .before .before .place .ensures) (c .before .before .before .before .before .before .before .get .ensures) (c .before .before .before .before .before .scale .ensures) (c .before .before .before .before .times .ensures) (c .before .before .before .add .ensures) (c .before .before .put .ensures)
+
 pub settle-spec : {M : Type 1} → statement M
 settle-spec = tie.close (tie.spec
-    (λ c κs. shown _ _ _ _ (c .before .pre) (omega arith)) (λ c κs. inside _ _ _ _ (c .before .before .before .pre) _ (c .before .place .ensures))
-    (λ c κs. tt) (λ c κs. tt) (λ c κs. tt)
-    (λ c κs. inside _ _ _ _ (c .before .before .before .before .before .before .before .before .pre) _ (c .before .before .before .before .before .before .place .ensures))
-    (λ c. search needs)
-    (λ c. let p = c .before .before .before .before .before .before .before .before .before .before .before .args in put-replaced K (p .v) (p .i) (p .j) (scaleBy (p .beta)) (times (p .alpha)) (p .sum) (now (p .c)) _ _ _ _ _ _ (c .before .before .before .before .before .before .before .before .before .place .ensures) (c .before .before .before .before .before .before .before .get .ensures) (c .before .before .before .before .before .scale .ensures) (c .before .before .before .before .times .ensures) (c .before .before .before .add .ensures) (c .before .before .put .ensures)))
+    (λ c κs. shown _ _ _ _ (c .before .pre) (omega arith)) (λ c κs. search inside) (λ c κs. tt) (λ c κs. tt) (λ c κs. tt) (λ c κs. search inside)
+    (λ c. search needs) returns)

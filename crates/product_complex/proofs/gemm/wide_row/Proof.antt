@@ -1,22 +1,23 @@
 -- Block after block is the row so far (Eights: block-settled; LoopLaws: span-after, row-last).
-use Rattle.product_complex.proofs.Words.{row-begun, ℕ, _≤_, _+_, _-_, _/_, _≡_, refl, ap, _∙_, arith, length, now, times, everywhere, updateRow, row-last, span-after, product, planChange, ready-kept, block-settled, K, scaleBy}
+use Rattle.product_complex.proofs.Words.{needs, row-begun, ℕ, _≤_, _+_, _-_, _/_, _≡_, refl, ap, _∙_, arith, length, now, times, everywhere, updateRow, row-last, span-after, product, planChange, ready-kept, block-settled, K, scaleBy}
 use Rattle.product_complex.proofs.gemm.wide_row.Statement.{statement}
 use Rattle.product_complex.proofs.gemm.wide_row.Tie as tie
 
 abbrev Inv-loop : tie.InvT-loop
 Inv-loop plan a b alpha beta c₀ i n j₀ c j = (j ≤ n) × (length c ≡ length c₀) × (c ≡ updateRow K (plan .target) everywhere (planChange K plan (scaleBy beta) (times alpha) a b) i j c₀)
 
-pub wide-row-spec : {M : Type 1} → statement M
-wide-row-spec = tie.close (tie.spec
-    Inv-loop (λ plan a b alpha beta c₀ i n j₀ c j. n - j) (λ c κs. tt) (λ c. (omega arith, refl, row-begun _ _ _ _ _ _))
-    (λ c κs. let r = c .before .before .before .before .before .before .pre in (omega arith, omega (arith, r .2, c .before .before .cols .ensures), omega (arith, r .0 .target .cols-le, c .before .before .cols .ensures), omega arith))
-    (λ c κs. let r = c .before .before .before .before .before .before .before .pre in (r .0 .reads, r .1, omega (arith, c .block-start .ensures .2, c .before .before .before .cols .ensures)))
-    (λ c κs. let r = c .before .before .before .before .before .before .before .before .before .pre in
+abbrev μ-loop : tie.MeasureT-loop
+μ-loop plan a b alpha beta c₀ i n j₀ c j = n - j
+
+settle-four-requires : tie.Need-settle-four-requires Inv-loop μ-loop
+settle-four-requires c κs =
+    let r = c .before .before .before .before .before .before .before .before .before .pre in
     let s = c .before .before .block-start .ensures in
-    (ready-kept _ _ _ _ _ (ap (λ (k : ℕ). k / 2) (c .before .before .before .before .loop .inv .1)) (r .0) .target, r .1, record { begins = s .0; ordered = omega (arith, s .1); ends = omega arith; within = omega (arith, s .2, c .before .before .before .before .before .cols .ensures) }))
-    (λ c. omega (arith, c .before .before .before .before .before .block-start .ensures .2))
-    (λ c. omega (arith, c .before .before .before .before .before .block-start .ensures .1, c .before .before .before .before .before .block-start .ensures .2))
-    (λ c. let p = c .before .before .before .before .before .before .before .before .before .before .before .before in
+    (ready-kept _ _ _ _ _ (ap (λ (k : ℕ). k / 2) (c .before .before .before .before .loop .inv .1)) (r .0) .target, r .1, record { begins = s .0; ordered = omega (arith, s .1); ends = omega arith; within = omega (arith, s .2, c .before .before .before .before .before .cols .ensures) })
+
+loop-again : tie.Need-loop-again Inv-loop μ-loop
+loop-again c =
+    let p = c .before .before .before .before .before .before .before .before .before .before .before .before in
     let l = c .before .before .before .before .before .before .before .loop in
     let s = c .before .before .before .before .before .block-start in (
       omega (arith, s .ensures .2),
@@ -26,6 +27,10 @@ wide-row-spec = tie.close (tie.spec
           (record { begins = s .ensures .0; ordered = omega (arith, s .ensures .1); ends = omega arith; within = omega (arith, s .ensures .2, c .before .before .before .before .before .before .before .before .cols .ensures) })
           (c .before .before .before .before .four-sums .ensures)
           (c .before .before .settle-four .ensures)),
-    ))
-    (λ c. c .before .loop .inv .1)
-    (λ c. row-last _ _ _ _ _ _ _ _ _ (c .before .before .cols .ensures) (c .before .loop .inv .0) (omega arith) (c .before .loop .inv .2)))
+    )
+
+pub wide-row-spec : {M : Type 1} → statement M
+wide-row-spec = tie.close (tie.spec
+    Inv-loop μ-loop (λ c κs. tt) (λ c. (omega arith, refl, row-begun _ _ _ _ _ _)) (λ c κs. (omega arith, search needs, search needs, omega arith))
+    (λ c κs. (search needs, search needs, search needs)) settle-four-requires (λ c. search needs) (λ c. search needs) loop-again (λ c. search needs)
+    (λ c. search (row-last K)))

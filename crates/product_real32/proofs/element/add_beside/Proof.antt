@@ -6,9 +6,19 @@ use Rattle.product_real32.proofs.element.add_beside.Tie as tie
 abbrev Inv-loop : tie.InvT-loop
 Inv-loop f a b i j from end totals₀ p₀ totals p = (from ≤ p) × (p ≤ end) × Eight K totals (λ t. plusTerms K (K .at totals₀ t) (term K f a b i (j + t)) from (p - from))
 
+abbrev μ-loop : tie.MeasureT-loop
+μ-loop f a b i j from end totals₀ p₀ totals p = end - p
+
+loop-again : tie.Need-loop-again Inv-loop μ-loop
+loop-again c =
+    let p = c .before .before .before .before .before .before .before .args in
+    let l = c .before .before .before .before .loop in
+    let r = c .before .before .before .before .before .before .before .pre in
+    (omega arith, omega arith, beside-next K self-conjugate (p .f) (now (p .a)) (now (p .b)) (p .i) (p .j) _ _ _ (l .totals) _ _ _ _ (r .1) (r .0 .right (l .p) (omega arith)) (c .before .place .ensures) (l .inv .0) (l .inv .2) (c .before .before .elem .ensures) (c .plus-beside .ensures))
+
 pub add-beside-spec : {M : Type 1} → statement M
 add-beside-spec = tie.close (tie.spec
-    Inv-loop (λ f a b i j from end totals₀ p₀ totals p. end - p)
+    Inv-loop μ-loop
     (λ c. let s = c .before .before in
     (omega arith, s .pre .0 .ordered, eight-start K _ _ _ _ (record { count = good-length cell 8 (s .args .sums) _ (s .good .1 .1 .1 .1 .1 .1 .1 .0); sum = λ t l. refl })))
     (λ c κs. c .before .before .before .before .pre .0 .left _ (omega arith))
@@ -17,9 +27,4 @@ add-beside-spec = tie.close (tie.spec
     (λ c κs. let r = c .before .before .before .before .before .before .pre in
     let h = r .0 .right (c .before .before .before .loop .p) (omega arith) in
     omega (arith, inside _ _ _ _ h _ refl, beside _ _ _ _ 7 (r .1) h, c .place .ensures))
-    (λ c. omega arith) (λ c. omega arith)
-    (λ c. let p = c .before .before .before .before .before .before .before .args in
-    let l = c .before .before .before .before .loop in
-    let r = c .before .before .before .before .before .before .before .pre in
-    (omega arith, omega arith, beside-next K self-conjugate (p .f) (now (p .a)) (now (p .b)) (p .i) (p .j) _ _ _ (l .totals) _ _ _ _ (r .1) (r .0 .right (l .p) (omega arith)) (c .before .place .ensures) (l .inv .0) (l .inv .2) (c .before .before .elem .ensures) (c .plus-beside .ensures)))
-    (λ c. eight-end K _ _ _ _ _ _ (c .before .loop .inv .1) (omega arith) (c .before .loop .inv .2)))
+    (λ c. omega arith) (λ c. omega arith) loop-again (λ c. eight-end K _ _ _ _ _ _ (c .before .loop .inv .1) (omega arith) (c .before .loop .inv .2)))

@@ -1,5 +1,5 @@
 -- Column after column of the block is settled (LoopLaws: span-next, span-end).
-use Rattle.product_real32.proofs.Words.{_≤_, _-_, _≡_, refl, _∙_, arith, length, span, span-start, span-next, span-end, accumulate, accepted-kept, K, scaleBy, value}
+use Rattle.product_real32.proofs.Words.{needs, _≤_, _-_, _≡_, refl, arith, length, span, span-start, span-next, span-end, accumulate, accepted-kept, K, scaleBy, value}
 use Rattle.product_real32.proofs.element.settle_block.Statement.{statement}
 use Rattle.product_real32.proofs.element.settle_block.Tie as tie
 
@@ -8,11 +8,10 @@ Inv-loop v alpha beta c₀ i from first end sums j₀ c j = (first ≤ j) × (j 
 
 pub settle-block-spec : {M : Type 1} → statement M
 settle-block-spec = tie.close (tie.spec
-    Inv-loop (λ v alpha beta c₀ i from first end sums j₀ c j. end - j) (λ c. (omega arith, c .before .pre .2 .ordered, refl, span-start K _ _ _ _ _))
-    (λ c. omega (arith, c .before .before .before .before .pre .2 .begins)) (λ c. omega (arith, c .before .before .before .before .pre .2 .ends))
-    (λ c. omega (arith, c .before .before .before .before .pre .2 .begins, c .before .before .before .before .pre .2 .ends))
+    Inv-loop (λ v alpha beta c₀ i from first end sums j₀ c j. end - j) (λ c. (omega arith, search needs, refl, span-start K _ _ _ _ _))
+    (λ c. search needs) (λ c. search needs)
+    (λ c. search needs)
     (λ c κs. let r = c .before .before .before .before .pre in record { fits = accepted-kept _ _ _ (c .before .before .loop .inv .2) (r .0); row = r .1; col = omega (arith, r .2 .ends, r .2 .within) })
     (λ c. omega arith) (λ c. omega arith)
-    (λ c. let l = c .before .before .before .before .before .loop in
-    (omega arith, omega arith, c .before .before .settle .kept .1 .1 .1 .0 ∙ l .inv .2, span-next K _ _ _ _ _ _ _ _ (l .inv .0) (l .inv .3) (c .before .before .settle .ensures)))
-    (λ c. c .before .loop .inv .2) (λ c. span-end K _ _ _ _ _ _ _ _ (c .before .loop .inv .1) (omega arith) (c .before .loop .inv .3)))
+    (λ c. (omega arith, omega arith, cc, search (span-next K)))
+    (λ c. search needs) (λ c. search (span-end K)))

@@ -1,5 +1,5 @@
 -- Row after row of the fold (LoopLaws: rows-next, rows-last).
-use Rattle.product_real32.proofs.Words.{rows-begun, _≤_, _-_, _≡_, refl, _∙_, arith, length, everywhere, updateRows, rows-next, rows-last, planChange, ready-kept, K, scaleBy, value}
+use Rattle.product_real32.proofs.Words.{needs, rows-begun, _≤_, _-_, _≡_, refl, arith, length, everywhere, updateRows, rows-next, rows-last, planChange, ready-kept, K, scaleBy, value}
 use Rattle.product_real32.proofs.gemm.run_wide.Statement.{statement}
 use Rattle.product_real32.proofs.gemm.run_wide.Tie as tie
 
@@ -9,8 +9,8 @@ Inv-loop plan a b alpha beta c₀ m i₀ c i = (i ≤ m) × (length c ≡ length
 pub run-wide-spec : {M : Type 1} → statement M
 run-wide-spec = tie.close (tie.spec
     Inv-loop (λ plan a b alpha beta c₀ m i₀ c i. m - i) (λ c κs. tt) (λ c. (omega arith, refl, rows-begun _ _ _ _ _))
-    (λ c κs. (ready-kept _ _ _ _ _ (c .before .before .loop .inv .1) (c .before .before .before .before .before .before .before .pre .0), omega (arith, c .before .before .before .rows .ensures), c .before .before .before .before .before .before .before .pre .1))
+    (λ c κs. (search ready-kept, search needs, search needs))
     (λ c. omega arith) (λ c. omega arith)
-    (λ c. (omega arith, c .before .before .wide-row .kept .1 .1 .1 .1 .1 .0 ∙ c .before .before .before .before .before .loop .inv .1, rows-next _ _ _ _ _ _ _ _ (c .before .before .before .before .before .loop .inv .2) (c .before .before .wide-row .ensures)))
-    (λ c. c .before .loop .inv .1)
-    (λ c. rows-last _ _ _ _ _ _ _ _ (c .before .before .rows .ensures) (c .before .loop .inv .0) (omega arith) (c .before .loop .inv .2)))
+    (λ c. (omega arith, cc, search (rows-next K)))
+    (λ c. search needs)
+    (λ c. search (rows-last K)))

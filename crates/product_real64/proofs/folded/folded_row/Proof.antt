@@ -1,5 +1,5 @@
 -- Element after element of the row (LoopLaws: put-next, row-last).
-use Rattle.product_real64.proofs.Words.{row-begun, _≤_, _-_, _≡_, refl, _∙_, arith, length, everywhere, updateRow, row-last, put-next, foldedChange, folded-kept, K, scaleBy, value}
+use Rattle.product_real64.proofs.Words.{needs, row-begun, _≤_, _-_, _≡_, refl, arith, length, everywhere, updateRow, row-last, put-next, foldedChange, folded-kept, K, scaleBy, value}
 use Rattle.product_real64.proofs.folded.folded_row.Statement.{statement}
 use Rattle.product_real64.proofs.folded.folded_row.Tie as tie
 
@@ -9,8 +9,8 @@ Inv-loop plan a b alpha beta c₀ i n j₀ c j = (j ≤ n) × (length c ≡ leng
 pub folded-row-spec : {M : Type 1} → statement M
 folded-row-spec = tie.close (tie.spec
     Inv-loop (λ plan a b alpha beta c₀ i n j₀ c j. n - j) (λ c κs. tt) (λ c. (omega arith, refl, row-begun _ _ _ _ _ _))
-    (λ c κs. (folded-kept _ _ _ _ _ (c .before .before .loop .inv .1) (c .before .before .before .before .before .before .before .pre .0), c .before .before .before .before .before .before .before .pre .1, omega (arith, c .before .before .before .cols .ensures)))
+    (λ c κs. (search folded-kept, search needs, search needs))
     (λ c. omega arith) (λ c. omega arith)
-    (λ c. (omega arith, c .before .before .folded-entry .kept .1 .1 .1 .1 .1 .0 ∙ c .before .before .before .before .before .loop .inv .1, put-next K _ _ _ _ _ _ _ _ refl (c .before .before .before .before .before .loop .inv .2) (c .before .before .folded-entry .ensures)))
-    (λ c. c .before .loop .inv .1)
-    (λ c. row-last _ _ _ _ _ _ _ _ _ (c .before .before .cols .ensures) (c .before .loop .inv .0) (omega arith) (c .before .loop .inv .2)))
+    (λ c. (omega arith, cc, search (put-next K)))
+    (λ c. search needs)
+    (λ c. search (row-last K)))

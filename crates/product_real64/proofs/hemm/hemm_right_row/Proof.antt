@@ -1,5 +1,5 @@
 -- Element after element of the row, each with a turn of its own (LoopLaws: put-next, row-last).
-use Rattle.product_real64.proofs.Words.{row-begun, _≤_, _-_, _≡_, refl, _∙_, arith, length, everywhere, updateRow, row-last, put-next, foldedChange, folded-kept, K, scaleBy, value}
+use Rattle.product_real64.proofs.Words.{needs, row-begun, _≤_, _-_, _≡_, refl, arith, length, everywhere, updateRow, row-last, put-next, foldedChange, folded-kept, K, scaleBy, value}
 use Rattle.product_real64.proofs.hemm.hemm_right_row.Statement.{statement}
 use Rattle.product_real64.proofs.hemm.hemm_right_row.Tie as tie
 
@@ -10,9 +10,8 @@ pub hemm-right-row-spec : {M : Type 1} → statement M
 hemm-right-row-spec = tie.close (tie.spec
     Inv-loop (λ plan a b alpha beta c₀ i turn m n j₀ c j. n - j) (λ c κs. tt) (λ c. (omega arith, refl, row-begun _ _ _ _ _ _))
     (λ c κs. let r = c .before .before .before .before .before .before .pre in r .0 .reads .turns _ _ (r .1) (omega (arith, c .before .before .cols .ensures)))
-    (λ c κs. let r = c .before .before .before .before .before .before .before .before .pre in (folded-kept _ _ _ _ _ (c .before .before .before .loop .inv .1) (r .0), r .1, omega (arith, c .before .before .before .before .cols .ensures), c .before .turn-at .ensures))
+    (λ c κs. (search folded-kept, search needs, search needs, search needs))
     (λ c. omega arith) (λ c. omega arith)
-    (λ c. let l = c .before .before .before .before .before .before .loop in
-    (omega arith, c .before .before .small-entry .kept .1 .1 .1 .1 .1 .1 .0 ∙ l .inv .1, put-next K _ _ _ _ _ _ _ _ refl (l .inv .2) (c .before .before .small-entry .ensures)))
-    (λ c. c .before .loop .inv .1)
-    (λ c. row-last _ _ _ _ _ _ _ _ _ (c .before .before .cols .ensures) (c .before .loop .inv .0) (omega arith) (c .before .loop .inv .2)))
+    (λ c. (omega arith, cc, search (put-next K)))
+    (λ c. search needs)
+    (λ c. search (row-last K)))

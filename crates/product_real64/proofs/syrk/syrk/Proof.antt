@@ -3,10 +3,11 @@ use Rattle.product_real64.proofs.Words.{_∙_, ap, refl, needs, syrk-re
 use Rattle.product_real64.proofs.syrk.syrk.Statement.{statement}
 use Rattle.product_real64.proofs.syrk.syrk.Tie as tie
 
+returns : tie.Need-returns
+returns c = syrk-done K _ _ _ _ _ _ _ _ (c .before .before .before .before .before .before .before .before .check-syrk .ensures) (c .before .before .before .before .before .before .before .passed .ensures) (c .before .before .before .before .before .before .if1 .taken) _ _ _ _ (c .before .before .before .before .before .syrk-plan .ensures) (ap scaleBy (c .before .before .before .before .judge .ensures) ∙ scale-by _) refl (c .before .before .run-syrk .ensures)
+
 pub syrk-spec : {M : Type 1} → statement M
 syrk-spec = tie.close (tie.spec
     (λ c κs. search needs) (λ c κs. c .quick-syrk .ensures) (λ c κs. tt) (λ c κs. tt) (λ c κs. tt)
     (λ c κs. syrk-runs _ _ _ _ _ _ _ (c .before .before .before .before .before .check-syrk .ensures) (c .before .before .before .before .passed .ensures) (c .before .before .before .if1 .taken) _ (c .before .before .syrk-plan .ensures))
-    (λ c. search needs)
-    (λ c. syrk-done K _ _ _ _ _ _ _ _ (c .before .before .before .before .before .before .before .before .check-syrk .ensures) (c .before .before .before .before .before .before .before .passed .ensures) (c .before .before .before .before .before .before .if1 .taken) _ _ _ _ (c .before .before .before .before .before .syrk-plan .ensures) (ap scaleBy (c .before .before .before .before .judge .ensures) ∙ scale-by _) refl (c .before .before .run-syrk .ensures))
-    (λ c. syrk-refused K _ _ _ _ _ _ _ _ (c .before .before .check-syrk .ensures) (c .before .passed .ensures) (c .if1 .left)))
+    (λ c. search needs) returns (λ c. search (syrk-refused K)))

@@ -6,8 +6,8 @@ use Rattle.rank_complex.proofs.her.her.Tie as tie
 pub her-spec : {M : Type 1} → statement M
 her-spec = tie.close (tie.spec
     (λ c κs. search needs) (λ c κs. c .quick-her .ensures) (λ c κs. tt)
-    (λ c κs. her-vector _ _ _ _ _ _ (c .before .before .check-her .ensures) (c .before .passed .ensures) (c .if1 .taken))
-    (λ c κs. her-runs _ _ _ _ _ _ (c .before .before .before .before .check-her .ensures) (c .before .before .before .passed .ensures) (c .before .before .if1 .taken) _ (c .before .column .ensures))
+    (λ c κs. search her-vector)
+    (λ c κs. search her-runs)
     (λ c. search needs)
-    (λ c. her-done K _ _ _ _ _ _ (c .before .before .before .before .before .before .before .check-her .ensures) (c .before .before .before .before .before .before .passed .ensures) (c .before .before .before .before .before .if1 .taken) _ _ (c .before .before .before .before .column .ensures) (c .before .before .her-rows .ensures))
-    (λ c. her-refused K _ _ _ _ _ _ (c .before .before .check-her .ensures) (c .before .passed .ensures) (c .if1 .left)))
+    (λ c. search (her-done K))
+    (λ c. search (her-refused K)))

@@ -3,15 +3,15 @@ use Rattle.rank_complex.proofs.Words.{ap, _∙_, arith, now, needs, sho
 use Rattle.rank_complex.proofs.pairs.settle.Statement.{statement}
 use Rattle.rank_complex.proofs.pairs.settle.Tie as tie
 
-pub settle-spec : {M : Type 1} → statement M
-settle-spec = tie.close (tie.spec
-    (λ c κs. shown _ _ _ _ (c .before .pre) (omega arith)) (λ c κs. inside _ _ _ _ (c .before .before .before .pre) _ (c .before .place .ensures))
-    (λ c κs. tt) (λ c κs. tt)
-    (λ c κs. inside _ _ _ _ (c .before .before .before .before .before .before .before .pre) _ (c .before .before .before .before .before .place .ensures))
-    (λ c. search needs)
-    (λ c. let p = c .before .before .before .before .before .before .before .before .before .before .args in
+returns : tie.Need-returns
+returns c =
+    let p = c .before .before .before .before .before .before .before .before .before .before .args in
     put-replaced K (p .v) (p .i) (p .j) (λ old. K .add (scaleBy (p .beta) old) (value (p .more))) (now (p .c)) _ _ _ _
     (c .before .before .before .before .before .before .before .before .place .ensures)
     (c .before .before .before .before .before .before .get .ensures)
     (c .before .before .before .add .ensures ∙ ap (λ z. K .add z (value (p .more))) (c .before .before .before .before .before .scale .ensures))
-    (c .before .before .put .ensures)))
+    (c .before .before .put .ensures)
+
+pub settle-spec : {M : Type 1} → statement M
+settle-spec = tie.close (tie.spec
+    (λ c κs. shown _ _ _ _ (c .before .pre) (omega arith)) (λ c κs. search inside) (λ c κs. tt) (λ c κs. tt) (λ c κs. search inside) (λ c. search needs) returns)

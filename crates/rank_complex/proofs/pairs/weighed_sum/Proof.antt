@@ -1,5 +1,5 @@
 -- The sum is that of the weighed pairs so far; each turn adds a pair (SumLaws: pair-next, pair-end).
-use Rattle.rank_complex.proofs.Words.{_≤_, _-_, _≡_, sym, _∙_, arith, zero-literal, pair-start, pair-next, pair-end, weighedsAt, K, value}
+use Rattle.rank_complex.proofs.Words.{needs, _≤_, _-_, _≡_, sym, _∙_, arith, zero-literal, pair-start, pair-next, pair-end, weighedsAt, K, value}
 use Rattle.rank_complex.proofs.pairs.weighed_sum.Statement.{statement}
 use Rattle.rank_complex.proofs.pairs.weighed_sum.Tie as tie
 
@@ -9,6 +9,6 @@ Inv-loop alpha plan a b i j n sum₀ p₀ sum p = (p ≤ n) × (value sum ≡ we
 pub weighed-sum-spec : {M : Type 1} → statement M
 weighed-sum-spec = tie.close (tie.spec
     Inv-loop (λ alpha plan a b i j n sum₀ p₀ sum p. n - p) (λ c. (omega arith, zero-literal ∙ sym (pair-start K _ _)))
-    (λ c κs. (c .before .before .before .before .pre, omega arith)) (λ c. omega arith) (λ c. omega arith)
-    (λ c. (omega arith, pair-next K _ _ _ _ _ (c .before .before .loop .inv .1) (c .add-weighed .ensures)))
-    (λ c. pair-end K _ _ _ _ _ (c .before .loop .inv .0) (omega arith) (c .before .loop .inv .1)))
+    (λ c κs. (search needs, omega arith)) (λ c. omega arith) (λ c. omega arith)
+    (λ c. (omega arith, search (pair-next K)))
+    (λ c. search (pair-end K)))

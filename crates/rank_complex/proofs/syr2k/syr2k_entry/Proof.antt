@@ -3,10 +3,13 @@ use Rattle.rank_complex.proofs.Words.{ap, _∙_, now, needs, settled, K
 use Rattle.rank_complex.proofs.syr2k.syr2k_entry.Statement.{statement}
 use Rattle.rank_complex.proofs.syr2k.syr2k_entry.Tie as tie
 
-pub syr2k-entry-spec : {M : Type 1} → statement M
-syr2k-entry-spec = tie.close (tie.spec
-    (λ c κs. search needs) (λ c κs. tt) (λ c κs. search needs) (λ c. search needs)
-    (λ c. let p = c .before .before .before .before .before .before .before .before .before .args in
+returns : tie.Need-returns
+returns c =
+    let p = c .before .before .before .before .before .before .before .before .before .args in
     settled K (p .plan .target) (p .i) (p .j) (scaleBy (p .beta)) _ _ (now (p .c)) _
     (c .before .before .before .before .mul .ensures ∙ ap (K .mul (value (p .alpha))) (c .before .before .before .before .before .pair-sum .ensures))
-    (c .before .before .settle .ensures)))
+    (c .before .before .settle .ensures)
+
+pub syr2k-entry-spec : {M : Type 1} → statement M
+syr2k-entry-spec = tie.close (tie.spec
+    (λ c κs. search needs) (λ c κs. tt) (λ c κs. search needs) (λ c. search needs) returns)

@@ -3,16 +3,16 @@ use Rattle.rank_real32.proofs.Words.{refl, ap, _∙_, arith, now, needs
 use Rattle.rank_real32.proofs.her.her_entry.Statement.{statement}
 use Rattle.rank_real32.proofs.her.her_entry.Tie as tie
 
-pub her-entry-spec : {M : Type 1} → statement M
-her-entry-spec = tie.close (tie.spec
-    (λ c κs. shown _ _ _ _ (c .before .before .pre .1) (omega arith))
-    (λ c κs. inside _ _ _ _ (c .before .before .before .before .pre .1) _ (c .before .place .ensures)) (λ c κs. search needs) (λ c κs. tt) (λ c κs. tt)
-    (λ c κs. tt)
-    (λ c κs. inside _ _ _ _ (c .before .before .before .before .before .before .before .before .before .before .pre .1) _ (c .before .before .before .before .before .before .before .place .ensures))
-    (λ c. search needs)
-    (λ c. let p = c .before .before .before .before .before .before .before .before .before .before .before .before .before .args in
+returns : tie.Need-returns
+returns c =
+    let p = c .before .before .before .before .before .before .before .before .before .before .before .before .before .args in
     put-replaced K (p .va) (p .i) (p .j) (addOne K (value (p .w)) (elem K (now (p .x)) (p .vx)) (p .j)) (now (p .a)) _ _ _ _
     (c .before .before .before .before .before .before .before .before .before .before .place .ensures)
     (c .before .before .before .before .before .before .before .before .get .ensures)
     (more K _ _ _ _ _ _ _ refl (c .before .before .before .before .before .before .conj .ensures ∙ ap (K .conj) (c .before .before .before .before .before .before .before .elem .ensures)) (c .before .before .before .before .before .mul .ensures) (c .before .before .before .add .ensures))
-    (c .before .before .put .ensures)))
+    (c .before .before .put .ensures)
+
+pub her-entry-spec : {M : Type 1} → statement M
+her-entry-spec = tie.close (tie.spec
+    (λ c κs. shown _ _ _ _ (c .before .before .pre .1) (omega arith)) (λ c κs. search inside) (λ c κs. search needs) (λ c κs. tt) (λ c κs. tt) (λ c κs. tt)
+    (λ c κs. search inside) (λ c. search needs) returns)

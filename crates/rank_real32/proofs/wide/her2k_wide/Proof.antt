@@ -1,5 +1,5 @@
 -- Row after row of the fold (LoopLaws: rows-next, rows-last).
-use Rattle.rank_real32.proofs.Words.{rows-begun, _≤_, _-_, _≡_, refl, _∙_, arith, length, inTriangle, updateRows, rows-next, rows-last, her2kChange, paired-kept, K, scaleBy, value}
+use Rattle.rank_real32.proofs.Words.{needs, rows-begun, _≤_, _-_, _≡_, refl, arith, length, inTriangle, updateRows, rows-next, rows-last, her2kChange, paired-kept, K, scaleBy, value}
 use Rattle.rank_real32.proofs.wide.her2k_wide.Statement.{statement}
 use Rattle.rank_real32.proofs.wide.her2k_wide.Tie as tie
 
@@ -9,10 +9,8 @@ Inv-loop alpha beta plan a b c₀ m i₀ c i = (i ≤ m) × (length c ≡ length
 pub her2k-wide-spec : {M : Type 1} → statement M
 her2k-wide-spec = tie.close (tie.spec
     Inv-loop (λ alpha beta plan a b c₀ m i₀ c i. m - i) (λ c κs. tt) (λ c. (omega arith, refl, rows-begun _ _ _ _ _))
-    (λ c κs. let h = c .before .before .before .before .before .before .before .pre in
-    (paired-kept _ _ _ _ _ (c .before .before .loop .inv .1) (h .0), omega (arith, c .before .before .before .rows .ensures), h .1))
+    (λ c κs. (search paired-kept, search needs, search needs))
     (λ c. omega arith) (λ c. omega arith)
-    (λ c. let l = c .before .before .before .before .before .loop in
-    (omega arith, c .before .before .her2k-wide-row .kept .1 .1 .1 .1 .1 .0 ∙ l .inv .1, rows-next _ _ _ _ _ _ _ _ (l .inv .2) (c .before .before .her2k-wide-row .ensures)))
-    (λ c. c .before .loop .inv .1)
-    (λ c. let l = c .before .loop in rows-last _ _ _ _ _ _ _ _ (c .before .before .rows .ensures) (l .inv .0) (omega arith) (l .inv .2)))
+    (λ c. (omega arith, cc, search (rows-next K)))
+    (λ c. search needs)
+    (λ c. search (rows-last K)))

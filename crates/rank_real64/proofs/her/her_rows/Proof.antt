@@ -1,5 +1,5 @@
 -- Row after row of the fold (LoopLaws: rows-next, rows-last).
-use Rattle.rank_real64.proofs.Words.{rows-begun, _≤_, _-_, _≡_, refl, _∙_, arith, length, inTriangle, elem, updateRows, rows-next, rows-last, herChange, one-kept, K, counted}
+use Rattle.rank_real64.proofs.Words.{needs, rows-begun, _≤_, _-_, _≡_, refl, arith, length, inTriangle, elem, updateRows, rows-next, rows-last, herChange, one-kept, K, counted}
 use Rattle.rank_real64.proofs.her.her_rows.Statement.{statement}
 use Rattle.rank_real64.proofs.her.her_rows.Tie as tie
 
@@ -9,9 +9,8 @@ Inv-loop uplo alpha x vx a₀ va m i₀ a i = (i ≤ m) × (length a ≡ length 
 pub her-rows-spec : {M : Type 1} → statement M
 her-rows-spec = tie.close (tie.spec
     Inv-loop (λ uplo alpha x vx a₀ va m i₀ a i. m - i) (λ c κs. tt) (λ c. (omega arith, refl, rows-begun _ _ _ _ _))
-    (λ c κs. (one-kept _ _ _ _ _ (counted (c .before .before .loop .inv .1)) (c .before .before .before .before .before .before .pre), omega (arith, c .before .before .before .rows .ensures)))
+    (λ c κs. (search (one-kept, counted), search needs))
     (λ c. omega arith) (λ c. omega arith)
-    (λ c. let l = c .before .before .before .before .before .loop in
-    (omega arith, c .before .before .her-row .kept .1 .1 .1 .1 .0 ∙ l .inv .1, rows-next _ _ _ _ _ _ _ _ (l .inv .2) (c .before .before .her-row .ensures)))
-    (λ c. c .before .loop .inv .1)
-    (λ c. let l = c .before .loop in rows-last _ _ _ _ _ _ _ _ (c .before .before .rows .ensures) (l .inv .0) (omega arith) (l .inv .2)))
+    (λ c. (omega arith, cc, search (rows-next K)))
+    (λ c. search needs)
+    (λ c. search (rows-last K)))

@@ -3,13 +3,15 @@ use Rattle.rank_real64.proofs.Words.{ap, _∙_, now, left-a-shows, righ
 use Rattle.rank_real64.proofs.wide.add_weigheds.Statement.{statement}
 use Rattle.rank_real64.proofs.wide.add_weigheds.Tie as tie
 
-pub add-weigheds-spec : {M : Type 1} → statement M
-add-weigheds-spec = tie.close (tie.spec
-    (λ c κs. let h = c .before .before .pre in left-a-shows _ _ _ _ _ (h .0) _ (h .1)) (λ c κs. tt) (λ c κs. tt)
-    (λ c κs. let h = c .before .before .before .before .before .pre in left-b-shows _ _ _ _ _ (h .0) _ (h .1)) (λ c κs. tt)
-    (λ c κs. let h = c .before .before .before .before .before .before .before .pre in (right-b-shows _ _ _ _ _ (h .0) _ (h .1), right-a-shows _ _ _ _ _ (h .0) _ (h .1)))
-    (λ c. let p = c .before .before .before .before .before .before .before .before .args in
+returns : tie.Need-returns
+returns c =
+    let p = c .before .before .before .before .before .before .before .before .args in
     as-planned K self-conjugate (p .plan) (now (p .a)) (now (p .b)) (p .sums) _ _ _ _ _ (p .p) (p .j)
     (c .before .before .before .before .mul .ensures ∙ ap (K .mul (value (p .alpha))) (c .before .before .before .before .before .elem-conj .ensures))
     (c .before .mul2 .ensures ∙ (λ t. K .mul (c .before .before .before .conj .ensures t) (c .before .before .elem-conj2 .ensures t)))
-    (c .add-both .ensures)))
+    (c .add-both .ensures)
+
+pub add-weigheds-spec : {M : Type 1} → statement M
+add-weigheds-spec = tie.close (tie.spec
+    (λ c κs. search left-a-shows) (λ c κs. tt) (λ c κs. tt) (λ c κs. search left-b-shows) (λ c κs. tt) (λ c κs. (search right-b-shows, search right-a-shows))
+    returns)

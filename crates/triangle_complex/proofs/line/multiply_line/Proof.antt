@@ -1,5 +1,5 @@
 -- Element after element of the line: a walk of steps (WalkLaws: walk-next, walk-end).
-use Rattle.triangle_complex.proofs.Words.{ℕ, _≤_, _-_, _/_, _≡_, refl, ap, _∙_, arith, length, timesIf, multiplyLine, ready-for, walk-start, walk-next, walk-end, K}
+use Rattle.triangle_complex.proofs.Words.{needs, ℕ, _≤_, _-_, _/_, _≡_, refl, ap, arith, length, timesIf, multiplyLine, ready-for, walk-start, walk-next, walk-end, K}
 use Rattle.triangle_complex.proofs.line.multiply_line.Statement.{statement}
 use Rattle.triangle_complex.proofs.line.multiply_line.Tie as tie
 
@@ -12,6 +12,6 @@ multiply-line-spec = tie.close (tie.spec
     (λ c κs. let p = c .before .before .before .before .before .before .pre in
     ready-for _ _ _ _ _ _ _ _ (p .0) (ap (λ (n : ℕ). n / 2) (c .before .before .loop .inv .1)) (c .before .before .before .rows .ensures) refl (omega arith) (p .1))
     (λ c. omega arith) (λ c. omega arith)
-    (λ c. (omega arith, c .before .before .multiply-one .kept .1 .1 .1 .1 .0 ∙ c .before .before .before .before .before .loop .inv .1, walk-next _ _ _ _ _ (c .before .before .before .before .before .loop .inv .2) (c .before .before .multiply-one .ensures)))
-    (λ c. c .before .loop .inv .1)
+    (λ c. (omega arith, cc, search walk-next))
+    (λ c. search needs)
     (λ c. walk-end _ _ _ _ _ (omega (arith, c .before .before .rows .ensures, c .before .loop .inv .0)) (omega (arith, c .before .before .rows .ensures)) (c .before .loop .inv .2)))

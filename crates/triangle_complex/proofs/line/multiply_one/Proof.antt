@@ -1,12 +1,15 @@
 -- What is put at the element's place is its line's sum, times alpha where asked (Multiplies: multiply-one-is).
-use Rattle.triangle_complex.proofs.Words.{refl, arith, shown, inside, unknown-shown, multiply-one-is, needs, K}
+use Rattle.triangle_complex.proofs.Words.{arith, shown, inside, unknown-shown, multiply-one-is, needs, K}
 use Rattle.triangle_complex.proofs.line.multiply_one.Statement.{statement}
 use Rattle.triangle_complex.proofs.line.multiply_one.Tie as tie
 
+place-requires : tie.Need-place-requires
+place-requires c κs = let p = c .before .before .before .before .before .before .before .before .before .pre in shown _ _ _ _ (unknown-shown _ _ _ (p .ready) _ _ (omega (arith, c .before .before .before .before .in-order .ensures .1, c .before .before .before .before .before .rows .ensures)) (p .line)) (omega arith)
+
+put-requires : tie.Need-put-requires
+put-requires c κs = let p = c .before .before .before .before .before .before .before .before .before .before .pre in inside _ _ _ _ (unknown-shown _ _ _ (p .ready) _ _ (omega (arith, c .before .before .before .before .before .in-order .ensures .1, c .before .before .before .before .before .before .rows .ensures)) (p .line)) _ (c .place .ensures)
+
 pub multiply-one-spec : {M : Type 1} → statement M
 multiply-one-spec = tie.close (tie.spec
-    (λ c κs. search needs) (λ c κs. search needs) (λ c κs. search needs) (λ c κs. search needs)
-    (λ c κs. let p = c .before .before .before .before .before .before .before .before .before .pre in shown _ _ _ _ (unknown-shown _ _ _ (p .ready) _ _ (omega (arith, c .before .before .before .before .in-order .ensures .1, c .before .before .before .before .before .rows .ensures)) (p .line)) (omega arith))
-    (λ c κs. let p = c .before .before .before .before .before .before .before .before .before .before .pre in inside _ _ _ _ (unknown-shown _ _ _ (p .ready) _ _ (omega (arith, c .before .before .before .before .before .in-order .ensures .1, c .before .before .before .before .before .before .rows .ensures)) (p .line)) _ (c .place .ensures))
-    (λ c. search needs)
-    (λ c. multiply-one-is K _ _ _ _ _ _ _ _ _ _ _ _ _ refl (c .before .before .before .before .before .before .before .before .before .rows .ensures) (c .before .before .before .before .before .before .before .before .in-order .ensures .0) (c .before .before .before .place .ensures) (c .before .before .before .before .before .before .line-sum .ensures) (c .before .before .before .before .before .times-if .ensures) (c .before .before .put .ensures)))
+    (λ c κs. search needs) (λ c κs. search needs) (λ c κs. search needs) (λ c κs. search needs) place-requires put-requires (λ c. search needs)
+    (λ c. search (multiply-one-is K)))

@@ -8,5 +8,5 @@ trsm-spec = tie.close (tie.spec
     (λ c κs. search needs) (λ c κs. c .quick-trmm .ensures) (λ c κs. search needs)
     (λ c κs. matrix-runs _ _ _ _ _ _ _ (c .before .before .before .check-trsm .ensures) (c .before .before .passed .ensures) (c .before .if1 .taken))
     (λ c. search needs)
-    (λ c. trsm-done K _ _ _ _ _ _ _ _ _ (c .before .before .before .before .before .before .check-trsm .ensures) (c .before .before .before .before .before .passed .ensures) (c .before .before .before .before .if1 .taken) _ _ (c .before .before .sided .ensures))
-    (λ c. trsm-refused K _ _ _ _ _ _ _ _ _ (c .before .before .check-trsm .ensures) (c .before .passed .ensures) (c .if1 .left)))
+    (λ c. search (trsm-done K))
+    (λ c. search (trsm-refused K)))

@@ -6,4 +6,4 @@ use Rattle.triangle_real32.proofs.line.own_term.Tie as tie
 pub own-term-spec : {M : Type 1} → statement M
 own-term-spec = tie.close (tie.spec
     (λ c κs. search needs) (λ c κs. search needs) (λ c κs. tt)
-    (λ c. weighed K _ _ _ _ _ (c .before .before .own-weight .ensures) (c .before .elem .ensures) (c .mul .ensures)))
+    (λ c. search (weighed K)))

@@ -1,5 +1,5 @@
 -- Line after line of B: a walk of steps (WalkLaws: walk-next, walk-end).
-use Rattle.triangle_real64.proofs.Words.{_≤_, _-_, _≡_, refl, _∙_, arith, length, walk, multiplyLine, ready-kept, walk-start, walk-next, walk-end, K, value}
+use Rattle.triangle_real64.proofs.Words.{needs, _≤_, _-_, _≡_, refl, arith, length, walk, multiplyLine, ready-kept, walk-start, walk-next, walk-end, K, value}
 use Rattle.triangle_real64.proofs.trmm.multiply_lines.Statement.{statement}
 use Rattle.triangle_real64.proofs.trmm.multiply_lines.Tie as tie
 
@@ -9,8 +9,8 @@ Inv-loop sys alpha a b₀ n l₀ b l = (l ≤ n) × (length b ≡ length b₀) �
 pub multiply-lines-spec : {M : Type 1} → statement M
 multiply-lines-spec = tie.close (tie.spec
     Inv-loop (λ sys alpha a b₀ n l₀ b l. n - l) (λ c κs. tt) (λ c. (omega arith, refl, walk-start _ _))
-    (λ c κs. (ready-kept _ _ _ _ (c .before .before .before .before .before .before .pre) (c .before .before .loop .inv .1), omega (arith, c .before .before .before .cols .ensures)))
+    (λ c κs. (search ready-kept, search needs))
     (λ c. omega arith) (λ c. omega arith)
-    (λ c. (omega arith, c .before .before .multiply-line .kept .1 .1 .1 .0 ∙ c .before .before .before .before .before .loop .inv .1, walk-next _ _ _ _ _ (c .before .before .before .before .before .loop .inv .2) (c .before .before .multiply-line .ensures)))
-    (λ c. c .before .loop .inv .1)
+    (λ c. (omega arith, cc, search walk-next))
+    (λ c. search needs)
     (λ c. walk-end _ _ _ _ _ (omega (arith, c .before .before .cols .ensures, c .before .loop .inv .0)) (omega (arith, c .before .before .cols .ensures)) (c .before .loop .inv .2)))

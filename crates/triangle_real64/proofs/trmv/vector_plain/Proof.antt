@@ -1,5 +1,5 @@
 -- Element after element of the only line: a walk of steps (WalkLaws: walk-next; Multiplies: only-line).
-use Rattle.triangle_real64.proofs.Words.{_≤_, _-_, _≡_, refl, _∙_, arith, length, walk, multiplyOne, ready-for, only-line, walk-start, walk-next, walk-end, K}
+use Rattle.triangle_real64.proofs.Words.{needs, _≤_, _-_, _≡_, refl, arith, length, walk, multiplyOne, ready-for, only-line, walk-start, walk-next, walk-end, K}
 use Rattle.triangle_real64.proofs.trmv.vector_plain.Statement.{statement}
 use Rattle.triangle_real64.proofs.trmv.vector_plain.Tie as tie
 
@@ -12,6 +12,6 @@ vector-plain-spec = tie.close (tie.spec
     (λ c κs. let p = c .before .before .before .before .before .before .pre in
     ready-for _ _ _ _ _ _ _ _ (p .0) (c .before .before .loop .inv .1) (c .before .before .before .rows .ensures) refl (omega arith) (omega (arith, p .1)))
     (λ c. omega arith) (λ c. omega arith)
-    (λ c. (omega arith, c .before .before .multiply-next .kept .1 .1 .0 ∙ c .before .before .before .before .before .loop .inv .1, walk-next _ _ _ _ _ (c .before .before .before .before .before .loop .inv .2) (c .before .before .multiply-next .ensures)))
-    (λ c. c .before .loop .inv .1)
+    (λ c. (omega arith, cc, search walk-next))
+    (λ c. search needs)
     (λ c. only-line K _ _ _ _ _ _ (c .before .before .before .before .before .pre .1) (c .before .before .rows .ensures) (walk-end _ _ _ _ _ (c .before .loop .inv .0) (omega arith) (c .before .loop .inv .2))))

@@ -1,5 +1,5 @@
 -- Row after row of the fold (LoopLaws: rows-next, rows-last).
-use Rattle.triangle_real64.proofs.Words.{rows-begun, rows-next, rows-last, updateRows, everywhere, needs, length, _≤_, _-_, _≡_, refl, _∙_, row-in, arith, K, value}
+use Rattle.triangle_real64.proofs.Words.{rows-begun, rows-next, rows-last, updateRows, everywhere, needs, length, _≤_, _-_, _≡_, refl, row-in, arith, K, value}
 use Rattle.triangle_real64.proofs.trsm.scale.Statement.{statement}
 use Rattle.triangle_real64.proofs.trsm.scale.Tie as tie
 
@@ -11,6 +11,6 @@ scale-spec = tie.close (tie.spec
     Inv-loop (λ alpha b₀ vb m i₀ b i. m - i) (λ c κs. search needs) (λ c. (omega arith, refl, rows-begun _ _ _ _ _))
     (λ c κs. row-in _ _ _ _ _ (c .before .before .before .before .before .pre) (c .before .before .loop .inv .1) (c .before .before .before .rows .ensures) (c .before .loop-test .taken))
     (λ c. omega arith) (λ c. omega arith)
-    (λ c. (omega arith, c .before .before .scale-row .kept .1 .0 ∙ c .before .before .before .before .before .loop .inv .1, rows-next _ _ _ _ _ _ _ _ (c .before .before .before .before .before .loop .inv .2) (c .before .before .scale-row .ensures)))
-    (λ c. c .before .loop .inv .1)
-    (λ c. rows-last _ _ _ _ _ _ _ _ (c .before .before .rows .ensures) (c .before .loop .inv .0) (omega arith) (c .before .loop .inv .2)))
+    (λ c. (omega arith, cc, search (rows-next K)))
+    (λ c. search needs)
+    (λ c. search (rows-last K)))

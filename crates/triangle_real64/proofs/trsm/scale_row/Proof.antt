@@ -1,5 +1,5 @@
 -- Element after element of the row (LoopLaws: row-next, row-last).
-use Rattle.triangle_real64.proofs.Words.{row-begun, row-next, row-last, updateRow, everywhere, in-row, needs, length, _≤_, _-_, _≡_, refl, _∙_, arith, K, value}
+use Rattle.triangle_real64.proofs.Words.{row-begun, row-next, row-last, updateRow, everywhere, in-row, needs, length, _≤_, _-_, _≡_, refl, arith, K, value}
 use Rattle.triangle_real64.proofs.trsm.scale_row.Statement.{statement}
 use Rattle.triangle_real64.proofs.trsm.scale_row.Tie as tie
 
@@ -9,8 +9,8 @@ Inv-loop alpha b₀ vb i n j₀ b j = (j ≤ n) × (length b ≡ length b₀) ×
 pub scale-row-spec : {M : Type 1} → statement M
 scale-row-spec = tie.close (tie.spec
     Inv-loop (λ alpha b₀ vb i n j₀ b j. n - j) (λ c κs. search needs) (λ c. (omega arith, refl, row-begun _ _ _ _ _ _))
-    (λ c κs. in-row _ _ _ _ _ _ (c .before .before .before .before .before .pre .0) (c .before .before .loop .inv .1) (c .before .before .before .before .before .pre .1) (c .before .before .before .cols .ensures) (c .before .loop-test .taken))
+    (λ c κs. search in-row)
     (λ c. omega arith) (λ c. omega arith)
-    (λ c. (omega arith, c .before .before .scale-one .kept .1 .0 ∙ c .before .before .before .before .before .loop .inv .1, row-next _ _ _ _ _ _ _ _ _ (c .before .before .before .before .before .loop .inv .2) (c .before .before .scale-one .ensures)))
-    (λ c. c .before .loop .inv .1)
-    (λ c. row-last _ _ _ _ _ _ _ _ _ (c .before .before .cols .ensures) (c .before .loop .inv .0) (omega arith) (c .before .loop .inv .2)))
+    (λ c. (omega arith, cc, search (row-next K)))
+    (λ c. search needs)
+    (λ c. search (row-last K)))

@@ -1,5 +1,5 @@
 -- Unknown after unknown, each across the lines: a walk of steps (WalkLaws: walk-next, walk-end).
-use Rattle.triangle_real64.proofs.Words.{_≤_, _-_, _≡_, refl, _∙_, arith, length, walk, timesIf, solveAcross, walk-start, walk-next, walk-end, ready-kept, K, value}
+use Rattle.triangle_real64.proofs.Words.{needs, _≤_, _-_, _≡_, refl, arith, length, walk, timesIf, solveAcross, walk-start, walk-next, walk-end, ready-kept, K, value}
 use Rattle.triangle_real64.proofs.trsm.solve_unknowns.Statement.{statement}
 use Rattle.triangle_real64.proofs.trsm.solve_unknowns.Tie as tie
 
@@ -11,5 +11,5 @@ solve-unknowns-spec = tie.close (tie.spec
     Inv-loop (λ sys times alpha a b₀ n m k₀ b k. m - k) (λ c. (omega arith, refl, walk-start _ _))
     (λ c κs. let p = c .before .before .before .before .before .pre in (ready-kept _ _ _ _ (p .0) (c .before .before .loop .inv .1), (p .1 .0, omega (arith, p .1 .1))))
     (λ c. omega arith) (λ c. omega arith)
-    (λ c. (omega arith, c .before .before .solve-across .kept .1 .1 .1 .1 .0 ∙ c .before .before .before .before .before .loop .inv .1, walk-next _ _ _ _ _ (c .before .before .before .before .before .loop .inv .2) (c .before .before .solve-across .ensures)))
-    (λ c. c .before .loop .inv .1) (λ c. walk-end _ _ _ _ _ (c .before .loop .inv .0) (omega arith) (c .before .loop .inv .2)))
+    (λ c. (omega arith, cc, search walk-next))
+    (λ c. search needs) (λ c. search walk-end))

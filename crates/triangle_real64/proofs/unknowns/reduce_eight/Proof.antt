@@ -6,18 +6,25 @@ use Rattle.triangle_real64.proofs.unknowns.reduce_eight.Tie as tie
 abbrev Inv-loop : tie.InvT-loop
 Inv-loop conjugated a va b vb q l from n rest₀ end p₀ rest p = (from ≤ p) × (p ≤ end) × Eight K rest (λ t. minusTerms K (K .at rest₀ t) (λ i. K .mul (elemConj K conjugated a va q i) (elem K b vb i (l + t))) from (p - from))
 
+abbrev μ-loop : tie.MeasureT-loop
+μ-loop conjugated a va b vb q l from n rest₀ end p₀ rest p = end - p
+
+loop-holds : tie.Need-loop-holds Inv-loop μ-loop
+loop-holds c =
+    let p = c .before .before .args in
+    (omega arith, omega arith, less-first K (p .conjugated) (now (p .a)) (p .va) (now (p .b)) (p .vb) (p .q) (p .l) (p .from) (p .xs) (good-length cell 8 (p .xs) _ (c .before .before .good .1 .1 .1 .1 .1 .1 .1 .1 .1 .0)))
+
+loop-again : tie.Need-loop-again Inv-loop μ-loop
+loop-again c =
+    let p = c .before .before .before .before .before .before .args in
+    let i = c .before .before .before .loop .inv in
+    (omega arith, omega arith, less-on K (p .conjugated) (now (p .a)) (p .va) (now (p .b)) (p .vb) (p .q) (p .l) (p .from) (p .xs) _ _ _ _ (i .0) (c .before .elem-conj .ensures) (i .2) (c .minus-eight .ensures))
+
 pub reduce-eight-spec : {M : Type 1} → statement M
 reduce-eight-spec = tie.close (tie.spec
-    Inv-loop (λ conjugated a va b vb q l from n rest₀ end p₀ rest p. end - p)
-    (λ c. omega (arith, run-end _ _ _ _ _ _ _ _ (c .before .before .pre) (omega arith)))
-    (λ c. let p = c .before .before .args in
-    (omega arith, omega arith, less-first K (p .conjugated) (now (p .a)) (p .va) (now (p .b)) (p .vb) (p .q) (p .l) (p .from) (p .xs) (good-length cell 8 (p .xs) _ (c .before .before .good .1 .1 .1 .1 .1 .1 .1 .1 .1 .0))))
-    (λ c κs. span-left _ _ _ _ _ _ _ _ (c .before .before .before .before .pre) _ _ refl (c .before .loop .inv .0) (omega arith))
-    (λ c κs. span-right _ _ _ _ _ _ _ _ (c .before .before .before .before .before .pre) _ _ refl (c .before .before .loop .inv .0) (omega arith))
-    (λ c. omega (arith, run-end _ _ _ _ _ _ _ _ (c .before .before .before .before .before .before .pre) (omega arith))) (λ c. omega arith)
-    (λ c. let p = c .before .before .before .before .before .before .args in
-    let i = c .before .before .before .loop .inv in
-    (omega arith, omega arith, less-on K (p .conjugated) (now (p .a)) (p .va) (now (p .b)) (p .vb) (p .q) (p .l) (p .from) (p .xs) _ _ _ _ (i .0) (c .before .elem-conj .ensures) (i .2) (c .minus-eight .ensures)))
+    Inv-loop μ-loop (λ c. omega (arith, run-end _ _ _ _ _ _ _ _ (c .before .before .pre) (omega arith))) loop-holds (λ c κs. search span-left)
+    (λ c κs. search span-right) (λ c. omega (arith, run-end _ _ _ _ _ _ _ _ (c .before .before .before .before .before .before .pre) (omega arith)))
+    (λ c. omega arith) loop-again
     (λ c. let p = c .before .before .before .before .args in
     let i = c .before .loop .inv in
     less-done K (p .conjugated) (now (p .a)) (p .va) (now (p .b)) (p .vb) (p .q) (p .l) (p .from) (p .xs) _ _ _ _ refl (i .1) (omega arith) (i .2)))
