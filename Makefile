@@ -1,5 +1,6 @@
 # make demo: the two-point path. make test: the gate. The rest builds the archive, tests its bindings and compares with the Rust (oracle/).
-.PHONY: demo numbers test kinds archive c-test rust-test oracle-test lists counts compare bench netlib-examples need-rt need-cargo need-cc
+.PHONY: demo numbers test kinds archive c-test c-worked c-header rust-test
+.PHONY: oracle-test lists counts compare bench netlib-examples need-rt need-cargo need-cc need-cxx
 
 ARCHIVE = target/libzirve_blas.a
 KINDS = real64 real32 complex
@@ -59,9 +60,22 @@ $(PARTS): target/staticlib/libcapi_%.a: $$(shell find $$(addprefix crates/,$$(ca
 # Under the compiler's checks of addresses and undefined behaviour, where it has them.
 SANITIZE = $(shell echo 'int main(void) { return 0; }' | $(CC) -x c -fsanitize=address,undefined -o /dev/null - 2> /dev/null && echo -fsanitize=address,undefined)
 
-c-test: archive need-cc
-	$(CC) -std=c11 -O1 -Wall -Wextra $(SANITIZE) -Iinclude -o target/c-test tests/c/*.c $(ARCHIVE) -lm
-	target/c-test
+WORKED = main products rank triangle
+STANDARDS = c90 c99 c11 c17 c2x c++98 c++03 c++11 c++14 c++17 c++20
+STRICT = -Wall -Wextra -Wpedantic -Wconversion -Werror
+
+c-test: c-worked c-header
+
+# The worked numbers, refusals and flags.
+c-worked: archive need-cc
+	$(CC) -std=c11 -O1 -Wall -Wextra $(SANITIZE) -Iinclude -o target/c-worked $(WORKED:%=tests/c/%.c) $(ARCHIVE)
+	target/c-worked
+
+# The header in each language that it is for, without a warning.
+c-header: archive need-cc need-cxx
+	@for s in $(STANDARDS); do case $$s in c++*) l=c++ ;; *) l=c ;; esac; \
+		$(CC) -x $$l -std=$$s $(STRICT) -Iinclude -o target/c-header tests/c/header.c -x none $(ARCHIVE) && \
+		target/c-header && echo "header, -std=$$s: ok" || exit 1; done
 
 rust-test: archive need-cargo
 	cd bindings/rust && cargo test --offline --quiet
@@ -84,6 +98,10 @@ need-rt:
 
 need-cargo:
 	@command -v cargo > /dev/null || { echo "cargo is not found: install the Debian packages cargo and rustc" >&2; exit 1; }
+
+need-cxx:
+	@echo 'int main() {}' | $(CC) -x c++ -fsyntax-only - 2> /dev/null || \
+		{ echo "$(CC) compiles no C++: install the Debian package g++" >&2; exit 1; }
 
 need-cc:
 	@command -v cc > /dev/null || { echo "cc is not found: install the Debian package gcc" >&2; exit 1; }
