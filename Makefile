@@ -1,5 +1,5 @@
 # make demo: the two-point path. make test: the gate. The rest builds the archive, tests its bindings and compares with the Rust (oracle/).
-.PHONY: demo numbers test kinds archive c-test c-worked c-header rust-test
+.PHONY: demo numbers test kinds archive c-test c-worked c-faults c-environment c-header rust-test
 .PHONY: oracle-test lists counts compare bench netlib-examples need-rt need-cargo need-cc need-cxx
 
 ARCHIVE = target/libzirve_blas.a
@@ -60,16 +60,26 @@ $(PARTS): target/staticlib/libcapi_%.a: $$(shell find $$(addprefix crates/,$$(ca
 # Under the compiler's checks of addresses and undefined behaviour, where it has them.
 SANITIZE = $(shell echo 'int main(void) { return 0; }' | $(CC) -x c -fsanitize=address,undefined -o /dev/null - 2> /dev/null && echo -fsanitize=address,undefined)
 
-WORKED = main products rank triangle
+C11 = $(CC) -std=c11 -O1 -Wall -Wextra -Iinclude
 STANDARDS = c90 c99 c11 c17 c2x c++98 c++03 c++11 c++14 c++17 c++20
 STRICT = -Wall -Wextra -Wpedantic -Wconversion -Werror
 
-c-test: c-worked c-header
+c-test: c-worked c-faults c-environment c-header
 
 # The worked numbers, refusals and flags.
 c-worked: archive need-cc
-	$(CC) -std=c11 -O1 -Wall -Wextra $(SANITIZE) -Iinclude -o target/c-worked $(WORKED:%=tests/c/%.c) $(ARCHIVE)
+	$(C11) $(SANITIZE) -o target/c-worked $(addprefix tests/c/,main.c expect.c products.c rank.c triangle.c) $(ARCHIVE)
 	target/c-worked
+
+# Slabs beside pages that may not be touched, and two threads; without the compiler's checks, which catch faults too.
+c-faults: archive need-cc
+	$(C11) -pthread -o target/c-faults tests/c/faults.c tests/c/routines.c $(ARCHIVE)
+	target/c-faults
+
+# The floating-point environment.
+c-environment: archive need-cc
+	$(C11) -o target/c-environment $(addprefix tests/c/,environment.c expect.c routines.c) $(ARCHIVE) -lm
+	target/c-environment
 
 # The header in each language that it is for, without a warning.
 c-header: archive need-cc need-cxx

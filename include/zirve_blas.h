@@ -28,10 +28,11 @@
  * not told is n, the slab's length. docs/DIFFERENCES.md, installed in share/doc/zirve-blas, has the calls on which
  * Netlib's BLAS gives other numbers.
  *
- * The floating-point environment, which no function looks at or sets, is to be the one that a program starts with:
+ * The floating-point environment, which no function looks at or changes, is to be the one that a program starts with:
  * rounding to nearest; flush-to-zero and denormals-are-zero off, so no linking with -ffast-math or -Ofast, which switch
- * them on (a pivot of 1e-310 would then be zero, answer 5); floating-point exceptions masked, so no feenableexcept. The
- * exception flags after a call say nothing: unused lanes of packed instructions compute too.
+ * them on (a pivot of 1e-310 is then zero, answer 5); floating-point exceptions masked, so no feenableexcept (0 times
+ * infinity would then end the program). The exception flags after a call say nothing: lanes of packed instructions that
+ * no element uses may set them.
  *
  * Nothing is kept from call to call: threads may call at the same time, each with a target of its own.
  */
@@ -70,8 +71,8 @@ enum zb_answer {
 #define ZB_VECTOR(p, n, count, inc) \
     (p), ZB_AS(size_t, n), ZB_START(count, inc), ZB_AS(uint64_t, count), 1, ZB_AS(int64_t, inc), 1
 
-/* The same of a whole array x of numbers, whose type tells its length; not of a pointer. Written so for C90 and C++98,
- * whose macros cannot take pointer and length as one argument. */
+/* The same of a whole array x, not of a pointer: its type tells the length. A macro for pointer and length together
+ * could not stand inside those above in C90 and C++98; these work from C90 to C++20. */
 #define ZB_ARRAY_BY_ROWS(x, rows, cols, ld) ZB_BY_ROWS(x, ZB_LENGTH(x), rows, cols, ld)
 #define ZB_ARRAY_BY_COLS(x, rows, cols, ld) ZB_BY_COLS(x, ZB_LENGTH(x), rows, cols, ld)
 #define ZB_ARRAY_VECTOR(x, count, inc) ZB_VECTOR(x, ZB_LENGTH(x), count, inc)

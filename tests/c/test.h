@@ -7,6 +7,7 @@
 
 /* Prints a line, and counts what fails. */
 void expect(const char *what, int ok);
+int failures(void);
 
 void products(void);
 void rank_updates(void);
