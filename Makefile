@@ -1,7 +1,7 @@
-# make demo: the two-point path. make test: the gate. The rest builds and tests the archive, and compares with
+# make demo: the two-point path. make test: the gate. The rest builds, installs and tests the archive, and compares with
 # the Rust (oracle/). Only what proves crates needs rt: an archive that is up to date is used as it is.
-.PHONY: demo numbers test kinds archive c-test c-worked c-faults c-environment c-header rust-test
-.PHONY: oracle-test lists counts compare bench netlib-examples need-rt need-cargo need-cc need-cxx
+.PHONY: demo numbers test kinds archive install c-test c-worked c-faults c-environment c-header c-installed rust-test
+.PHONY: oracle-test lists counts compare bench netlib-examples need-rt need-cargo need-cc need-cxx need-pkg-config
 
 # Two runs of rt would meet in target/.
 .NOTPARALLEL:
@@ -68,8 +68,21 @@ $(PARTS): target/staticlib/libcapi_%.a: \
 	@RT_JOBS=4 scripts/prove --archive capi_$* target/capi_$*.log $(call under,$(or $(MADE),$*))
 	@touch $@
 
+# The header, the archive and the file for pkg-config, which names PREFIX; DESTDIR is where PREFIX stands for now.
+PREFIX = /usr/local
+INTO = $(DESTDIR)$(PREFIX)
+VERSION = $(shell sed -n 's/^.define ZB_VERSION "\(.*\)"/\1/p' include/zirve_blas.h)
+
+install: archive
+	install -d "$(INTO)/include" "$(INTO)/lib/pkgconfig" "$(INTO)/share/doc/zirve-blas"
+	install -m 644 include/zirve_blas.h "$(INTO)/include"
+	install -m 644 $(ARCHIVE) "$(INTO)/lib"
+	install -m 644 docs/DIFFERENCES.md NOTICE "$(INTO)/share/doc/zirve-blas"
+	sed 's|@PREFIX@|$(PREFIX)|; s|@VERSION@|$(VERSION)|' packaging/zirve-blas.pc.in > target/zirve-blas.pc
+	install -m 644 target/zirve-blas.pc "$(INTO)/lib/pkgconfig"
+
 # The tests in C, in tests/c.
-c-test: c-worked c-faults c-environment c-header
+c-test: c-worked c-faults c-environment c-header c-installed
 
 C11 = $(CC) -std=c11 -O1 -Wall -Wextra -Iinclude
 
@@ -100,6 +113,18 @@ c-header: archive need-cc need-cxx
 	@for s in $(STANDARDS); do case $$s in c++*) l=c++ ;; *) l=c ;; esac; \
 		$(CC) -x $$l -std=$$s $(STRICT) -Iinclude -o target/c-header tests/c/header.c -x none $(ARCHIVE) && \
 		target/c-header && echo "header, -std=$$s: ok" || exit 1; done
+
+# A program built through pkg-config from what is installed, under a DESTDIR.
+STAGE = $(abspath target/installed)
+FIND = PKG_CONFIG_SYSROOT_DIR=$(STAGE) PKG_CONFIG_PATH=$(STAGE)/opt/zirve-blas/lib/pkgconfig pkg-config
+
+c-installed: need-cc need-pkg-config
+	rm -rf $(STAGE)
+	@$(MAKE) --no-print-directory install PREFIX=/opt/zirve-blas DESTDIR=$(STAGE)
+	$(FIND) --exact-version=$(VERSION) zirve-blas
+	$(CC) $(STRICT) $$($(FIND) --cflags zirve-blas) -o target/c-installed tests/c/header.c $$($(FIND) --libs zirve-blas)
+	target/c-installed
+	@echo "header and archive, installed: ok"
 
 rust-test: archive need-cargo
 	cd bindings/rust && cargo test --offline --quiet
@@ -133,3 +158,6 @@ need-cc:
 need-cxx:
 	@echo 'int main() {}' | $(CC) -x c++ -fsyntax-only - 2> /dev/null || \
 		{ echo "$(CC) compiles no C++: install the Debian package g++" >&2; exit 1; }
+
+need-pkg-config:
+	@$(call need,pkg-config,the Debian package pkgconf)
