@@ -12,8 +12,9 @@
 //! [`Storage`], [`StorageMut`], the traits of the routines, and the flags `Trans`, `UpLo`, `Diag` and `Side` are
 //! those of this crate, not of control-rs. A type that implements control-rs's `DenseStorage` or `Storage` does not
 //! implement [`Storage`] by that, and a program cannot implement one crate's trait for another crate's type. Hence
-//! a newtype of the program's own: `examples/control_rs.rs` has one for every storage of control-rs, of some lines.
-//! What lends a slice needs none, since [`Strided`] holds it with a view.
+//! a newtype of the program's own: `examples/control_rs.rs` has one over control-rs's `DenseStorage`,
+//! `examples/nalgebra.rs` one over column-major matrices. What lends a slice needs none, since [`Strided`] holds it
+//! with a view.
 //!
 //! ```
 //! use zirve_blas::level3::Gemm;
