@@ -52,6 +52,13 @@ fn empty_views_fit_any_slab() {
 }
 
 #[test]
+fn a_vector_with_a_negative_increment_starts_at_its_last_place() {
+    assert_eq!(View::strided(3, -2).start, 4);
+    assert_eq!(View::strided(0, -2).start, 0);
+    assert_eq!(View::strided(3, i64::MIN).start, u64::MAX);
+}
+
+#[test]
 fn views_are_made_in_constants() {
     const VIEWS: [View; 3] = [View::by_rows(1, 2, 3).at(4), View::by_cols(1, 2, 3).at(4), View::strided(2, -3)];
     assert_eq!(VIEWS.map(|view| view.start), [4, 4, 3]);
@@ -68,7 +75,7 @@ fn the_largest_numbers_lead_off_the_slab() {
         View::strided(2, i64::MIN),
         View::strided(64, i64::MIN),
         View::strided(64, i64::MAX),
-        View::vector(1).at(far).at(far),
+        View::vector(1).at(far).at(1),
     ];
     for view in off {
         assert_eq!(answer(view), Err(Refusal::OutOfBounds), "{view:?}");

@@ -4,9 +4,10 @@ use crate::model::{all, source, target, triangle, Kind, Matrix, Whole, ONE, ZERO
 use crate::{both, pairs, DIAG, SIDE, TRANS, UPLO};
 use zirve_blas::level2::{Gemv, Hemv, Her, Her2, Trmv, Trsv};
 use zirve_blas::level3::{Gemm, Hemm, Her2k, Herk, Symm, Syr2k, Syrk, Trmm, Trsm};
-use zirve_blas::{Diag, ProvedBlas, Side, Trans, UpLo};
+use zirve_blas::{Diag, ProvedBlas, Side, Trans, UpLo, View};
 
-crate::every_kind! { gemv hemv her her2 trmv trsv gemm symm hemm syrk herk syr2k her2k trmm trsm }
+crate::every_kind! { gemv hemv her her2 trmv trsv gemm symm hemm syrk herk syr2k her2k trmm trsm
+rank_2k_without_terms }
 
 fn alpha<T: Kind>() -> Whole {
     T::whole(2, -1)
@@ -190,6 +191,18 @@ fn her2k<T: Kind>() {
         let (a, b) = (source(&a, turn + 1, all), source(&b, turn + 2, all));
         both!(T::her2k(uplo, trans, T::of(alpha::<T>()); a, b; T::real(beta)), c);
     }
+}
+
+/// her2k multiplies by alpha inside its sum, syr2k what the sum gives: where there are no terms an alpha of NaN is in
+/// syr2k's result alone. On reals with exact sums nothing else tells the two apart.
+fn rank_2k_without_terms<T: Kind>() {
+    let (empty, one) = (View::rows_of(1, 0), View::vector(1));
+    let (old, mut c, mut d) = (T::of(ONE), [T::of(ONE)], [T::of(ONE)]);
+    let (upper, no) = (UpLo::Upper, Trans::NoTrans);
+    assert_eq!(T::her2k(upper, no, T::NAN, &[], empty, &[], empty, T::real(1), &mut c, one), Ok(()));
+    assert_eq!(c, [old]);
+    assert_eq!(T::syr2k(upper, no, T::NAN, &[], empty, &[], empty, old, &mut d, one), Ok(()));
+    assert_ne!(d, [d[0]], "only NaN is not equal to itself");
 }
 
 fn trmm<T: Kind>() {
