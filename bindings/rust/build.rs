@@ -32,12 +32,12 @@ fn main() {
 /// The archive's bytes, or why it will not do.
 fn read(archive: &Path) -> Result<Vec<u8>, String> {
     let wanted = "run make archive at the root of the repository, or set ZB_ARCHIVE to the absolute path of an archive";
-    let bytes = fs::read(archive).map_err(|error| format!("cannot be read ({error}): {wanted}"))?;
+    let bytes = fs::read(archive).map_err(|error| format!("cannot be read: {error}; {wanted}"))?;
     if !bytes.starts_with(MAGIC) {
-        return Err(format!("is not an ar archive: {wanted}"));
+        return Err(format!("is not an ar archive; {wanted}"));
     }
     if !bytes.windows(FUNCTION.len()).any(|part| part == FUNCTION) {
-        return Err(format!("has no function {}: {wanted}", String::from_utf8_lossy(FUNCTION)));
+        return Err(format!("has no function {}; {wanted}", String::from_utf8_lossy(FUNCTION)));
     }
     Ok(bytes)
 }

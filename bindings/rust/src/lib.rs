@@ -28,7 +28,8 @@
 //! # From control-rs
 //!
 //! [`ProvedBlas`] offers the routines under the names, type parameters and order of arguments of control-rs's
-//! `DefaultBlas`; the page of [`adapter`] says what changes at a call.
+//! `DefaultBlas`. The traits are namesakes of control-rs's, not those; the page of [`adapter`] says what changes at a
+//! call, and how a storage of control-rs is passed.
 //!
 //! # The archive
 //!
@@ -39,10 +40,10 @@
 //!
 //! # The floating-point environment
 //!
-//! What is proved is proved of IEEE 754 arithmetic with rounding to nearest, ties to even. A call needs the
-//! processor to be set so: rounding to nearest, flush-to-zero and denormals-are-zero off, exceptions masked. A
-//! program starts so, and none written in Rust does otherwise by itself; a C part linked to it can, as one built
-//! with `-ffast-math` does when the program starts. The exception flags after a call say nothing.
+//! What is proved is proved of IEEE 754 arithmetic, rounded to nearest, ties to even. So a call wants the processor
+//! set as a program finds it: rounding to nearest, flush-to-zero and denormals-are-zero off, exceptions masked. No Rust
+//! program sets it otherwise by itself; a C part that is linked can, one built with `-ffast-math` for instance. The
+//! exception flags after a call say nothing.
 
 #![no_std]
 #![deny(missing_docs)]

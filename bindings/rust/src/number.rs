@@ -27,8 +27,9 @@ macro_rules! call {
         extern "C" {
             fn $name($(_: $type),*) -> u8;
         }
-        // SAFETY: the pointers and lengths are those of slices; the target's slice is lent alone. The function asks
-        // nothing of its arguments, reads and writes nothing but these slices, and answers for all of them.
+        // SAFETY: the pointers and lengths are those of slices, counted in floats, of which a `Complex` is two; the
+        // target's slice is lent alone. The function asks nothing else of its arguments, reads and writes nothing but
+        // these slices, and answers for all of them.
         Refusal::of(unsafe { $name($($value),*) })
     }};
     ($kind:ident $cell:ty, $name:ident [$($type:ty,)*] [$($value:expr,)*] flag $x:ident $($rest:tt)*) => {
