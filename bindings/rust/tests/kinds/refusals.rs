@@ -10,7 +10,7 @@ crate::every_kind! { target_refused source_refused trsv_singular trsm_singular n
 
 const SQUARE: View = View::rows_of(2, 2);
 
-/// Views of a slab of six that gemm and trsm refuse beside a square matrix of 2 rows, the lowest number met first.
+/// Views of a slab of six that gemm and trsm refuse beside a square matrix of 2 rows, with the lowest number met.
 const REFUSED: [(View, Refusal); 8] = [
     (View::rows_of(65, 0), Refusal::TooLarge),
     (View::rows_of(2, 65).at(9), Refusal::TooLarge),
@@ -48,9 +48,15 @@ fn source_refused<T: Kind>() {
     }
 }
 
-/// Whether op(A) is upper triangular.
-fn is_upper(uplo: UpLo, trans: Trans) -> bool {
-    (uplo == UpLo::Upper) == (trans == Trans::NoTrans)
+/// Whether a row (Left) or a column (Right) is solved before the zero pivot is met: where op(A) is upper triangular rows
+/// go from the last to the first and columns from the first to the last, else the other way.
+fn solved(side: Side, uplo: UpLo, trans: Trans, k: usize, pivot: usize) -> bool {
+    let upper = (uplo == UpLo::Upper) == (trans == Trans::NoTrans);
+    if (side == Side::Left) == upper {
+        k > pivot
+    } else {
+        k < pivot
+    }
 }
 
 /// The matrix with a zero in its diagonal.
@@ -58,12 +64,12 @@ fn with_zero(a: &Matrix, pivot: usize) -> Matrix {
     Matrix::new(a.rows, a.cols, |r, c| if r == pivot && c == pivot { ZERO } else { a.at(r, c) })
 }
 
-/// B is op(A) Y for an A without the zero pivot, of which the elements solved before it do not depend: they are Y's.
+/// x is op(A) y for an A without the zero. What is solved before its pivot does not depend on it, and is y's.
 fn trsv_singular<T: Kind>() {
     for (turn, (pivot, (uplo, trans))) in pairs(&[0, 1, 2], &pairs(&UPLO, &TRANS)).into_iter().enumerate() {
         let (a, y) = (Matrix::sample::<T>(3, 3, 0), Matrix::sample::<T>(3, 1, 1));
         let x = a.triangle(uplo, Diag::NonUnit).op(trans).times(&y);
-        let solved = |r| if is_upper(uplo, trans) { r > pivot } else { r < pivot };
+        let solved = |r| solved(Side::Left, uplo, trans, r, pivot);
         let left = Matrix::new(3, 1, |r, c| if solved(r) { y.at(r, c) } else { x.at(r, c) });
         let a = source(&with_zero(&a, pivot), turn, triangle(uplo, Diag::NonUnit));
         let x = target(&x, &left, turn + 1, all);
@@ -72,11 +78,11 @@ fn trsv_singular<T: Kind>() {
 }
 
 /// What trsm leaves of a B of 3 rows and 3 columns, which is op(A) Y or Y op(A); what is solved is alpha Y.
-fn left_by_trsm(side: Side, upper: bool, pivot: usize, alpha: Whole, b: &Matrix, y: &Matrix) -> Matrix {
+fn left_by_trsm(side: Side, solved: impl Fn(usize) -> bool, alpha: Whole, b: &Matrix, y: &Matrix) -> Matrix {
     Matrix::new(3, 3, |r, c| match side {
-        Side::Left if c == 0 && if upper { r > pivot } else { r < pivot } => alpha * y.at(r, c),
+        Side::Left if c == 0 && solved(r) => alpha * y.at(r, c),
         Side::Left => b.at(r, c),
-        Side::Right if if upper { c < pivot } else { c > pivot } => alpha * y.at(r, c),
+        Side::Right if solved(c) => alpha * y.at(r, c),
         Side::Right => alpha * b.at(r, c),
     })
 }
@@ -87,7 +93,7 @@ fn trsm_singular<T: Kind>() {
         let (a, y, alpha) = (Matrix::sample::<T>(3, 3, 0), Matrix::sample::<T>(3, 3, 1), T::whole(2, -1));
         let op = a.triangle(uplo, Diag::NonUnit).op(trans);
         let b = if side == Side::Left { op.times(&y) } else { y.times(&op) };
-        let left = left_by_trsm(side, is_upper(uplo, trans), pivot, alpha, &b, &y);
+        let left = left_by_trsm(side, |k| solved(side, uplo, trans, k, pivot), alpha, &b, &y);
         let a = source(&with_zero(&a, pivot), turn, triangle(uplo, Diag::NonUnit));
         let b = target(&b, &left, turn + 1, all);
         both!(T::trsm(side, uplo, trans, Diag::NonUnit, T::of(alpha); a;), b, Err(Refusal::Singular));
