@@ -48,8 +48,8 @@ fn source_refused<T: Kind>() {
     }
 }
 
-/// Whether a row (Left) or a column (Right) is solved before the zero pivot is met: where op(A) is upper triangular rows
-/// go from the last to the first and columns from the first to the last, else the other way.
+/// Whether a row (Left) or a column (Right) is solved before the zero pivot is met: where op(A) is upper triangular
+/// rows go from the last to the first and columns from the first to the last, else the other way.
 fn solved(side: Side, uplo: UpLo, trans: Trans, k: usize, pivot: usize) -> bool {
     let upper = (uplo == UpLo::Upper) == (trans == Trans::NoTrans);
     if (side == Side::Left) == upper {
