@@ -150,7 +150,7 @@ need-rt:
 	@$(NEED_RT)
 
 need-cargo:
-	@$(call need,cargo,the Debian packages cargo and rustc)
+	@$(call need,cargo,cargo and rustc 1.84 or newer (Debian 13 has them as packages))
 
 need-cc:
 	@$(call need,cc,the Debian package gcc)
