@@ -1,9 +1,8 @@
-/* The two-point path through the C interface: two points are taught, a line through them is fitted by a forward and a backward solve, and its
- * waypoints are printed, beside those of a backward solve that ends one row short. Then three calls that are refused. */
+/* The two-point path through the C interface: two points are taught, a line through them is fitted by a forward and a
+ * backward solve, and its waypoints are printed, beside those of a backward solve that ends one row short. Then three
+ * calls that are refused. */
 #include "zirve_blas.h"
 #include <stdio.h>
-
-enum { NO_TRANS, LEFT = 0, UPPER = 0, LOWER = 1, NON_UNIT = 0, UNIT = 1 };
 
 static const char *sentence(uint8_t answer) {
     static const char *const all[] = {
@@ -34,13 +33,14 @@ static void pair(const double *line) {
 
 /* op(A) X = B solved in the place of B, two rows of three, seen from start on with the given stride from row to row */
 static uint8_t solve(uint8_t uplo, uint8_t diag, const double *a, double *b, uint64_t start, int64_t stride) {
-    return zb_dtrsm(LEFT, uplo, NO_TRANS, diag, 1.0, a, 4, 0, 2, 2, 2, 1, b, 6, start, 2, 3, stride, 1);
+    return zb_dtrsm(ZB_LEFT, uplo, ZB_NO_TRANS, diag, 1.0, ZB_BY_ROWS(a, 4, 2, 2, 2), b, 6, start, 2, 3, stride, 1);
 }
 
 /* the line at the stations 2 to 6 */
 static uint8_t waypoints(const double *line, double *way) {
     static const double stations[] = {1, 2, 1, 3, 1, 4, 1, 5, 1, 6};
-    return zb_dgemm(NO_TRANS, NO_TRANS, 1.0, stations, 10, 0, 5, 2, 2, 1, line, 6, 0, 2, 3, 3, 1, 0.0, way, 15, 0, 5, 3, 3, 1);
+    return zb_dgemm(ZB_NO_TRANS, ZB_NO_TRANS, 1.0, ZB_ARRAY_BY_ROWS(stations, 5, 2, 2), ZB_BY_ROWS(line, 6, 2, 3, 3),
+                    0.0, ZB_BY_ROWS(way, 15, 5, 3, 3));
 }
 
 static void follow(const double *taught) {
@@ -48,9 +48,9 @@ static void follow(const double *taught) {
     static const double lower[] = {1, 0, 1, 1}, upper[] = {1, 2, 0, 4};
     double line[6], shorter[6], way[15], wrong[15];
     for (int k = 0; k < 6; k++) line[k] = taught[k];
-    report("forward solve, Lower, Unit", solve(LOWER, UNIT, lower, line, 0, 3));
+    report("forward solve, Lower, Unit", solve(ZB_LOWER, ZB_UNIT, lower, line, 0, 3));
     for (int k = 0; k < 3; k++) shorter[k] = line[k];
-    report("backward solve, Upper, NonUnit", solve(UPPER, NON_UNIT, upper, line, 0, 3));
+    report("backward solve, Upper, NonUnit", solve(ZB_UPPER, ZB_NON_UNIT, upper, line, 0, 3));
     for (int k = 3; k < 6; k++) shorter[k] = line[k];
     report("waypoints, gemm", waypoints(line, way));
     waypoints(shorter, wrong);
@@ -66,7 +66,7 @@ static void follow(const double *taught) {
 
 static void refused(const char *what, const double *upper, uint64_t start, int64_t stride) {
     double line[] = {10, 40, 6, 20, -20, 8};
-    report(what, solve(UPPER, NON_UNIT, upper, line, start, stride));
+    report(what, solve(ZB_UPPER, ZB_NON_UNIT, upper, line, start, stride));
     pair(line);
 }
 

@@ -1,20 +1,40 @@
-/* zirve-blas: dense BLAS kernels, proved. Link with libzirve_blas.a.
+/* zirve-blas: dense BLAS kernels, proved. Link with libzirve_blas.a (pkg-config zirve-blas).
  *
- * Every function answers 0 or the number of a refusal:
- *   1  a view has more than 64 rows or columns
- *   2  some element of a view is outside its slab
- *   3  the shapes do not go together, a square matrix is not square, a vector is no vector, or a flag is out of its range
- *   4  two elements of the target view share a place
- *   5  trsv and trsm alone: diag is NonUnit, the target is not empty, and some diagonal element is zero
- * The lowest number met is the answer. A call refused with 1 to 4 changes nothing. After 5, trsv and trsm Left have solved the first column's
- * rows that come before the first zero pivot in solving order, and touched nothing else; trsm Right has multiplied all of B by alpha and solved the
- * columns before that pivot.
+ * Answers. Every function answers ZB_DONE or the lowest refusal that is met (enum zb_answer). A call refused with 1 to
+ * 4 changes nothing. After 5, trsv and trsm Left have solved the first column's rows that come before the first zero
+ * pivot in solving order, and touched nothing else; trsm Right has multiplied all of B by alpha and solved the columns
+ * before that pivot.
  *
- * Flags: trans 0 NoTrans, 1 Trans, 2 ConjTrans; uplo 0 Upper, 1 Lower; diag 0 NonUnit, 1 Unit; side 0 Left, 1 Right.
- * A matrix or a vector is a slab and a view of it: the pointer, the slab's length in numbers, then start, rows, columns, row stride and
- * column stride, counted in elements; element (r, c) is at start + r * row stride + c * column stride. A complex element is two numbers of the slab,
- * its real and its imaginary part, so a complex slab of n elements has the length 2 n. The last slab of a call is its target; no other
- * slab may share memory with it. A complex scalar is passed as two numbers.
+ * Flags are numbers (enums zb_trans, zb_uplo, zb_diag, zb_side; a variable for one is a uint8_t); one out of its range
+ * is refused with 3. syrk and syr2k take ZB_CONJ_TRANS as ZB_TRANS and conjugate nothing; herk and her2k take ZB_TRANS
+ * as ZB_CONJ_TRANS. On reals the two are the same.
+ *
+ * Views. A matrix or a vector is a slab and a view of it, in seven arguments: the pointer, the slab's length, then
+ * start, rows, columns, row stride and column stride. Element (r, c) is the slab's element
+ * start + r * row stride + c * column stride. Strides may be negative; start is where element (0, 0) is. A vector has
+ * at most one row or at most one column: it is n by 1 or 1 by n. A view of 0 rows or 0 columns has no elements, and any
+ * start and strides. The last slab of a call is its target; no other slab of the call may share memory with it.
+ *
+ * Lengths are counted in numbers, double or float, and must be true: they are all that a function knows of the memory
+ * behind a pointer. A slab of length 0 may have the pointer NULL.
+ *
+ * Complex. An element is two numbers, its real and its imaginary part: a slab of n elements has the length 2 n. start
+ * and the strides still count elements. The last number of an odd length belongs to no element, and stays. A scalar is
+ * passed as two numbers. double complex * and std::complex<double> * may be cast to double *.
+ *
+ * From CBLAS. The macros below write the seven arguments: a matrix with lda by ZB_BY_ROWS (row-major) or ZB_BY_COLS
+ * (column-major), with the rows and columns that are stored, not those of op(A); a vector with incx by ZB_VECTOR. With
+ * a negative incx a vector begins at the far end, here as there: its view starts at (count - 1) * -incx. What CBLAS is
+ * not told is n, the slab's length. docs/DIFFERENCES.md, installed in share/doc/zirve-blas, has the calls on which
+ * Netlib's BLAS gives other numbers.
+ *
+ * The floating-point environment, which no function looks at or changes, is to be the one that a program starts with:
+ * rounding to nearest; flush-to-zero and denormals-are-zero off, so no linking with -ffast-math or -Ofast, which switch
+ * them on (a pivot of 1e-310 is then zero, answer 5); floating-point exceptions masked, so no feenableexcept (0 times
+ * infinity would then end the program). The exception flags after a call say nothing: lanes of packed instructions that
+ * no element uses may set them.
+ *
+ * Nothing is kept from call to call: threads may call at the same time, each with a target of its own.
  */
 #ifndef ZIRVE_BLAS_H
 #define ZIRVE_BLAS_H
@@ -22,8 +42,51 @@
 #include <stddef.h>
 #include <stdint.h>
 
+#define ZB_VERSION_MAJOR 0
+#define ZB_VERSION_MINOR 1
+#define ZB_VERSION_PATCH 0
+#define ZB_VERSION "0.1.0"
+
+enum zb_trans { ZB_NO_TRANS = 0, ZB_TRANS = 1, ZB_CONJ_TRANS = 2 };
+enum zb_uplo { ZB_UPPER = 0, ZB_LOWER = 1 };
+enum zb_diag { ZB_NON_UNIT = 0, ZB_UNIT = 1 };
+enum zb_side { ZB_LEFT = 0, ZB_RIGHT = 1 };
+
+enum zb_answer {
+    ZB_DONE = 0,
+    ZB_TOO_LARGE = 1,      /* a view has more than 64 rows or columns */
+    ZB_OUT_OF_BOUNDS = 2,  /* some element of a view is outside its slab */
+    ZB_SHAPE_MISMATCH = 3, /* the shapes do not go together, a square matrix is not square, a vector is no vector, or a
+                            * flag is out of its range */
+    ZB_OVERLAP = 4,        /* two elements of the target view share a place */
+    ZB_SINGULAR = 5        /* trsv and trsm: diag is ZB_NON_UNIT, the target not empty, some diagonal element zero */
+};
+
+/* The seven arguments of a view of the n numbers at p: a matrix by rows or by columns, which stand ld elements apart,
+ * and a vector of count elements, which stand inc apart. count and inc are evaluated more than once. */
+#define ZB_BY_ROWS(p, n, rows, cols, ld) \
+    (p), ZB_AS(size_t, n), 0, ZB_AS(uint64_t, rows), ZB_AS(uint64_t, cols), ZB_AS(int64_t, ld), 1
+#define ZB_BY_COLS(p, n, rows, cols, ld) \
+    (p), ZB_AS(size_t, n), 0, ZB_AS(uint64_t, rows), ZB_AS(uint64_t, cols), 1, ZB_AS(int64_t, ld)
+#define ZB_VECTOR(p, n, count, inc) \
+    (p), ZB_AS(size_t, n), ZB_START(count, inc), ZB_AS(uint64_t, count), 1, ZB_AS(int64_t, inc), 1
+
+/* The same of a whole array x, not of a pointer: its type tells the length. A macro for pointer and length together
+ * could not stand inside those above in C90 and C++98; these work from C90 to C++20. */
+#define ZB_ARRAY_BY_ROWS(x, rows, cols, ld) ZB_BY_ROWS(x, ZB_LENGTH(x), rows, cols, ld)
+#define ZB_ARRAY_BY_COLS(x, rows, cols, ld) ZB_BY_COLS(x, ZB_LENGTH(x), rows, cols, ld)
+#define ZB_ARRAY_VECTOR(x, count, inc) ZB_VECTOR(x, ZB_LENGTH(x), count, inc)
+#define ZB_LENGTH(x) (sizeof(x) / sizeof *(x))
+
+/* Where a vector starts: its first element is the last in memory where inc is negative. */
+#define ZB_START(count, inc) \
+    (ZB_AS(int64_t, inc) < 0 && (count) != 0 ? (ZB_AS(uint64_t, count) - 1) * (0 - ZB_AS(uint64_t, inc)) : 0)
+
 #ifdef __cplusplus
+#define ZB_AS(type, x) static_cast<type>(x)
 extern "C" {
+#else
+#define ZB_AS(type, x) ((type)(x))
 #endif
 
 /* y ← alpha op(A) x + beta y */
@@ -259,7 +322,8 @@ uint8_t zb_zsyr2k(
     double beta_re, double beta_im,
     double *c, size_t c_len, uint64_t c_start, uint64_t c_rows, uint64_t c_cols, int64_t c_rs, int64_t c_cs);
 
-/* C ← alpha A Bᴴ + conj(alpha) B Aᴴ + beta C or alpha Aᴴ B + conj(alpha) Bᴴ A + beta C, in the named triangle, beta real */
+/* C ← alpha A Bᴴ + conj(alpha) B Aᴴ + beta C or alpha Aᴴ B + conj(alpha) Bᴴ A + beta C, in the named triangle, beta
+ * real */
 uint8_t zb_dher2k(
     uint8_t uplo,
     uint8_t trans,

@@ -1,5 +1,5 @@
 //! The smallest calls on which control-rs and Netlib's reference BLAS part, and those beside them on which they do not:
-//! the rows of docs/DIFFERENCES.md, case by case.
+//! those of docs/DIFFERENCES.md, case by case.
 
 use crate::call::Routine::*;
 use crate::call::{Call, Kind, Routine};
@@ -19,10 +19,10 @@ const C: u8 = 2;
 const NON: u8 = 0;
 const UNIT: u8 = 1;
 
-type Row = (&'static str, Call);
+type Named = (&'static str, Call);
 
-/// Every row's name and call.
-pub fn calls() -> Vec<Row> {
+/// Every call with its name.
+pub fn calls() -> Vec<Named> {
     let cases = [
         alpha_zero(),
         hermitian_diagonals(),
@@ -71,7 +71,7 @@ fn square(numbers: &[f64]) -> Matrix<'_> {
     (n, n, numbers)
 }
 
-fn alpha_zero() -> Vec<Row> {
+fn alpha_zero() -> Vec<Named> {
     let three = [one(&[NAN]), one(&[1.0]), one(&[1.0])];
     let two = [one(&[NAN]), one(&[1.0])];
     let (nan, unit): (&[f64], &[f64]) = (&[NAN, 0.0], &[1.0, 0.0]);
@@ -95,7 +95,7 @@ fn alpha_zero() -> Vec<Row> {
     ]
 }
 
-fn hermitian_diagonals() -> Vec<Row> {
+fn hermitian_diagonals() -> Vec<Named> {
     let alpha = [1.0, 0.0];
     let (a, unit, zero, old) = (one(&[1.0, 5.0]), one(&[1.0, 0.0]), one(&[0.0, 0.0]), one(&[7.0, 7.0]));
     vec![
@@ -115,7 +115,7 @@ fn hermitian_diagonals() -> Vec<Row> {
     ]
 }
 
-fn pivots() -> Vec<Row> {
+fn pivots() -> Vec<Named> {
     let trsv = |trans, a: &[f64], x: &[f64]| real(Trsv, &[UPPER, trans, NON], 0.0, 0.0, &[square(a), column(x)]);
     let trsm = |side, b: f64| real(Trsm, &[side, UPPER, N, NON], 2.0, 0.0, &[one(&[0.0]), one(&[b])]);
     let w11: [Matrix; 2] = [square(&[1.0, 1.0, 0.0, 0.0]), row(&[3.0, 4.0])];
@@ -132,7 +132,7 @@ fn pivots() -> Vec<Row> {
     ]
 }
 
-fn quotients() -> Vec<Row> {
+fn quotients() -> Vec<Named> {
     let trsv = |a: &[f64], x: &[f64]| complex(Trsv, &[UPPER, N, NON], [0.0; 2], 0.0, &[one(a), one(x)]);
     let trsm = |side, trans| real(Trsm, &[side, UPPER, trans, NON], 1.0, 0.0, &[one(&[3.0]), one(&[5.0])]);
     vec![
@@ -146,7 +146,7 @@ fn quotients() -> Vec<Row> {
     ]
 }
 
-fn transposes() -> Vec<Row> {
+fn transposes() -> Vec<Named> {
     let alpha = [1.0, 0.0];
     let (i, old) = (one(&[0.0, 1.0]), one(&[0.0, 0.0]));
     vec![
@@ -159,7 +159,7 @@ fn transposes() -> Vec<Row> {
     ]
 }
 
-fn place_of_alpha() -> Vec<Row> {
+fn place_of_alpha() -> Vec<Named> {
     let small = 1e-200;
     let (large, old) = (one(&[1e200]), one(&[0.0]));
     let three = |routine, flags: &[u8]| real(routine, flags, small, 0.0, &[large, large, old]);
@@ -212,7 +212,7 @@ fn place_of_alpha() -> Vec<Row> {
     ]
 }
 
-fn added_to_the_target() -> Vec<Row> {
+fn added_to_the_target() -> Vec<Named> {
     let (ones, old, far) = (square(&[1.0; 4]), one(&[1e16]), square(&[1e16; 4]));
     let (across, down) = (row(&[1.0, 1.0]), column(&[1.0, 1.0]));
     let real = |routine, flags: &[u8], matrices: &[Matrix]| real(routine, flags, 1.0, 1.0, matrices);
@@ -243,7 +243,7 @@ fn by_sums(routine: Routine, trans: u8) -> Call {
     real(routine, &[UPPER, trans], 1.0, 0.0, &[column(&[1e8, 1.0]), column(&[5e7, 1.0]), one(&[0.0])])
 }
 
-fn order_of_terms() -> Vec<Row> {
+fn order_of_terms() -> Vec<Named> {
     let (three, solved) = ([1e16, -1e16, 1.0], [1e16, -1.0, 1e16]);
     // One row or column is full, beside ones on the diagonal.
     let top = [1.0, 1.0, 1.0, 0.0, 1.0, 0.0, 0.0, 0.0, 1.0];
@@ -272,7 +272,7 @@ fn order_of_terms() -> Vec<Row> {
     ]
 }
 
-fn empty_sums() -> Vec<Row> {
+fn empty_sums() -> Vec<Named> {
     let (wide, tall): (Matrix, Matrix) = ((1, 0, &[]), (0, 1, &[]));
     let gemv = |alpha, beta, y: f64| real(Gemv, &[N], alpha, beta, &[wide, tall, one(&[y])]);
     let gemm = |alpha, beta, c: f64| real(Gemm, &[N, N], alpha, beta, &[wide, tall, one(&[c])]);
@@ -292,7 +292,7 @@ fn empty_sums() -> Vec<Row> {
     ]
 }
 
-fn zeros() -> Vec<Row> {
+fn zeros() -> Vec<Named> {
     // A NaN or a 0 above a diagonal of ones.
     let (nan, zero) = (square(&[1.0, NAN, 0.0, 1.0]), square(&[1.0, 0.0, 0.0, 1.0]));
     let v = |routine, flags: &[u8], x: &[f64]| real(routine, flags, 1.0, 0.0, &[nan, column(x)]);
@@ -326,7 +326,7 @@ fn zeros() -> Vec<Row> {
     ]
 }
 
-fn signs_of_zero() -> Vec<Row> {
+fn signs_of_zero() -> Vec<Named> {
     let three =
         |routine, flags: &[u8], alpha| real(routine, flags, alpha, 0.0, &[one(&[1.0]), one(&[0.0]), one(&[5.0])]);
     let two = |routine, flags: &[u8], alpha, b: f64| real(routine, flags, alpha, 0.0, &[one(&[1.0]), one(&[b])]);
@@ -345,7 +345,7 @@ fn signs_of_zero() -> Vec<Row> {
     ]
 }
 
-fn factors_of_one() -> Vec<Row> {
+fn factors_of_one() -> Vec<Named> {
     let alpha = [1.0, 0.0];
     let (nine, unit, infinite) = (one(&[9.0, 9.0]), one(&[1.0, 0.0]), one(&[INF, 0.0]));
     let zero = one(&[0.0, 0.0]);
@@ -374,7 +374,7 @@ fn factors_of_one() -> Vec<Row> {
     ]
 }
 
-fn real_kinds() -> Vec<Row> {
+fn real_kinds() -> Vec<Named> {
     let (a, x, old) = (square(&[1.0, 2.0, 9.0, 3.0]), column(&[1.0, 1.0]), column(&[0.0, 0.0]));
     let zeros = square(&[0.0; 4]);
     let pair = |routine| real(routine, &[UPPER, N], 0.1, 0.0, &[one(&[3.0]), one(&[3.0]), one(&[0.0])]);
@@ -390,7 +390,7 @@ fn real_kinds() -> Vec<Row> {
     ]
 }
 
-fn standard() -> Vec<Row> {
+fn standard() -> Vec<Named> {
     let pair = |trans, a: Matrix, b: Matrix| {
         let c: Matrix = if a.2.len() == 2 { one(&[0.0; 2]) } else { (2, 2, &[0.0; 8]) };
         complex(Her2k, &[UPPER, trans], [0.0, 1.0], 0.0, &[a, b, c])
@@ -406,7 +406,7 @@ fn standard() -> Vec<Row> {
     ]
 }
 
-fn views() -> Vec<Row> {
+fn views() -> Vec<Named> {
     let dot = |x: Matrix| real(Gemv, &[N], 1.0, 0.0, &[row(&[1.0, 10.0]), x, one(&[0.0])]);
     let matrices = [square(&[1.0, 2.0, 3.0, 4.0]), column(&[1.0, 10.0]), column(&[0.0, 0.0])];
     let gemv = real(Gemv, &[N], 1.0, 0.0, &matrices);

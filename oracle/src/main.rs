@@ -93,7 +93,7 @@ fn hold_page(judge: &oracle::page::Judge) {
     for (name, call) in oracle::differences::calls() {
         println!("{name} | {} | {}", oracle::page::input(&call), (judge.run)(call));
     }
-    let wrong = oracle::page::wrong(judge);
+    let wrong = oracle::page::wrong(&oracle::page::text(), judge);
     for fault in &wrong {
         eprintln!("docs/DIFFERENCES.md: {fault}");
     }

@@ -7,32 +7,72 @@ use crate::differences::calls;
 
 const PAGE: &str = concat!(env!("CARGO_MANIFEST_DIR"), "/../docs/DIFFERENCES.md");
 
-/// A judge of the calls: its column in the page, and what it gives.
+/// A judge of the calls: its place among an item's results, and what it gives.
 pub struct Judge {
-    column: usize,
+    place: usize,
     pub run: fn(Call) -> String,
 }
 
-pub const RUST: Judge = Judge { column: 3, run: rust };
+pub const RUST: Judge = Judge { place: 0, run: rust };
 
 #[cfg(netlib)]
-pub const NETLIB: Judge = Judge { column: 4, run: netlib };
+pub const NETLIB: Judge = Judge { place: 1, run: netlib };
 
-/// Where the page does not have the call, does not say what the judge gives, or has a row that no call makes.
-pub fn wrong(judge: &Judge) -> Vec<String> {
-    let text = std::fs::read_to_string(PAGE).expect("docs/DIFFERENCES.md is there");
-    let rows = text.lines().filter(|line| line.starts_with("| ") && !line.starts_with("| name |"));
-    let mut rows: Vec<Vec<&str>> = rows.map(|line| line.split('|').map(str::trim).collect()).collect();
-    let mut wrong = vec![];
+/// A call as the page has it: its name, the call in words, and what the Rust and Netlib's give.
+struct Item<'a> {
+    name: &'a str,
+    input: &'a str,
+    given: [&'a str; 2],
+}
+
+/// The page's text.
+pub fn text() -> String {
+    std::fs::read_to_string(PAGE).expect("docs/DIFFERENCES.md is there")
+}
+
+/// Where the page does not have the call, does not say what the judge gives, or has an item that no call makes or that
+/// is not in the form of one.
+pub fn wrong(page: &str, judge: &Judge) -> Vec<String> {
+    let (mut items, mut wrong) = (vec![], vec![]);
+    let texts = texts(page);
+    for text in &texts {
+        match item(text) {
+            Some(item) => items.push(item),
+            None => wrong.push(format!("not in the form of an item: {text}")),
+        }
+    }
     for (name, call) in calls() {
         let (input, given) = (input(&call), (judge.run)(call));
-        match rows.iter().position(|row| row[1] == name).map(|k| rows.remove(k)) {
-            Some(row) if row.len() == 6 && row[2] == input && row[judge.column] == given => {}
+        match items.iter().position(|item| item.name == name).map(|k| items.remove(k)) {
+            Some(item) if item.input == input && item.given[judge.place] == given => {}
             _ => wrong.push(format!("{name} is {input}, which gives {given}")),
         }
     }
-    wrong.extend(rows.iter().map(|row| format!("no call is named {}", row[1])));
+    wrong.extend(items.iter().map(|item| format!("no further call is named {}", item.name)));
     wrong
+}
+
+/// The calls' list items, those that begin with a backquote or have an item under them: one line for the call and one
+/// for each item under it.
+fn texts(page: &str) -> Vec<String> {
+    let unwrapped = |text: &str| {
+        let mut lines = text.lines();
+        let first = lines.next().unwrap_or_default().to_string();
+        lines.take_while(|line| line.starts_with("  ")).fold(first, |text, line| match line.strip_prefix("  - ") {
+            Some(under) => text + "\n" + under,
+            None => text + " " + line.trim_start(),
+        })
+    };
+    let texts = page.split("\n- ").skip(1).map(unwrapped);
+    texts.filter(|text| text.starts_with('`') || text.contains('\n')).collect()
+}
+
+/// The item of the form "`name`: input" with "Rust: given; Netlib: given" under it.
+fn item(text: &str) -> Option<Item<'_>> {
+    let (head, under) = text.split_once('\n')?;
+    let (name, input) = head.strip_prefix('`')?.split_once("`: ")?;
+    let (rust, netlib) = under.strip_prefix("Rust: ")?.split_once("; Netlib: ")?;
+    (!netlib.contains(['\n', ';'])).then_some(Item { name, input, given: [rust, netlib] })
 }
 
 /// The call in words: flags, then the arguments in their order.

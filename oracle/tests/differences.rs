@@ -6,11 +6,58 @@ use oracle::call::Routine::*;
 use oracle::call::{Call, Kind, Routine};
 use oracle::compare::compare;
 use oracle::generate::many;
-use oracle::page::{RUST, wrong};
+use oracle::page::{RUST, text, wrong};
 
 #[test]
 fn the_page_has_what_the_rust_gives() {
-    assert_eq!(wrong(&RUST), [""; 0]);
+    assert_eq!(wrong(&text(), &RUST), [""; 0]);
+}
+
+const ITEM: &str = "
+- `her-W14`: complex her Lower, alpha 2, x [(1,1)], A [(1,5)]
+  - Rust: (5,5); Netlib: (5,0)";
+
+/// The page with her-W14's item changed.
+fn changed(from: &str, to: &str) -> String {
+    assert_eq!([text().matches(ITEM).count(), ITEM.matches(from).count()], [1, 1], "{from}");
+    text().replace(ITEM, &ITEM.replace(from, to))
+}
+
+/// An item may be wrapped at any blank.
+#[test]
+fn a_wrapped_item_is_read() {
+    for (from, to) in [("complex her", "complex\n  her"), (", x", ",\n  x"), ("; Netlib", ";\n    Netlib")] {
+        assert_eq!(wrong(&changed(from, to), &RUST), [""; 0], "{to}");
+    }
+}
+
+/// What is not in an item's form, and what no call makes, is found, and nothing beside it.
+#[test]
+fn a_wrong_item_is_found() {
+    let edits = [
+        ("her-W14", "her-W15"),
+        ("Lower", "Upper"),
+        ("Rust: (5,5); Netlib: (5,0)", "Rust: (5,0); Netlib: (5,5)"),
+        ("  - Rust: (5,5); Netlib: (5,0)", ""),
+        ("; Netlib: (5,0)", ""),
+        ("Rust: (5,5); ", ""),
+        ("(5,0)", "(5,0); Ours: (5,5)"),
+        ("(5,0)", "(5,0)\n  - Ours: (5,5)"),
+        ("  - Rust", "- Rust"),
+        ("  - Rust", "  Rust"),
+        ("\n  - Rust", "\n\n  - Rust"),
+        (", x", ",\nx"),
+        ("`her-W14`", "her-W14"),
+        (ITEM, ""),
+        (ITEM, &[ITEM, ITEM].concat()),
+        (ITEM, &[ITEM, "\n- `W14-her`: her\n  - Rust: 1; Netlib: 1"].concat()),
+        (ITEM, &[ITEM, "\n- W14-her: her\n  - Rust: 1; Netlib: 1"].concat()),
+    ];
+    for (from, to) in edits {
+        let found = wrong(&changed(from, to), &RUST);
+        let named = |fault: &String| ["her-W14", "her-W15", "W14-her"].iter().any(|name| fault.contains(name));
+        assert!(!found.is_empty() && found.iter().all(named), "{to}: {found:?}");
+    }
 }
 
 /// The routine without conjugates that a Hermitian one is on reals.

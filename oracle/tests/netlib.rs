@@ -1,5 +1,5 @@
-//! Netlib's reference BLAS, where it is linked: docs/DIFFERENCES.md says what it gives, and it agrees where no difference
-//! is told.
+//! Netlib's reference BLAS, where it is linked: docs/DIFFERENCES.md says what it gives, and it agrees where no
+//! difference is told.
 #![cfg(all(reference, netlib))]
 
 use oracle::answer::answer;
@@ -7,11 +7,18 @@ use oracle::call::Routine::*;
 use oracle::call::{Call, Kind};
 use oracle::compare::against;
 use oracle::examples::{answer_of_netlib, calls, changed_after, changed_before};
-use oracle::page::{NETLIB, wrong};
+use oracle::page::{NETLIB, text, wrong};
 
 #[test]
 fn the_page_has_what_netlib_gives() {
-    assert_eq!(wrong(&NETLIB), [""; 0]);
+    assert_eq!(wrong(&text(), &NETLIB), [""; 0]);
+}
+
+#[test]
+fn a_wrong_number_of_netlib_is_found() {
+    let (right, changed) = ("- Rust: (5,5); Netlib: (5,0)\n", "- Rust: (5,0); Netlib: (5,5)\n");
+    assert_eq!(text().matches(right).count(), 1);
+    assert_eq!(wrong(&text().replace(right, changed), &NETLIB).len(), 1);
 }
 
 #[test]
@@ -36,8 +43,8 @@ fn the_examples_find_a_changed_number() {
     }
 }
 
-/// The settings in which both make the same operations in the same order, save for zeros, alpha 0 and ONE, and a complex
-/// quotient.
+/// The settings in which both make the same operations in the same order, save for zeros, alpha 0 and ONE, and a
+/// complex quotient.
 fn same_operations(call: &Call) -> bool {
     let real = call.kind != Kind::Complex;
     match (call.routine, &call.flags[..]) {

@@ -1,5 +1,6 @@
-//! The two-point path through the bindings: two points are taught, a line through them is fitted by a forward and a backward
-//! solve, and its waypoints are printed, beside those of a backward solve that ends one row short. Then three refused calls.
+//! The two-point path through the bindings: two points are taught, a line through them is fitted by a forward and a
+//! backward solve, and its waypoints are printed, beside those of a backward solve that ends one row short. Then
+//! three refused calls.
 
 use zirve_blas::{Diag, Number, Refusal, Side, Trans, UpLo, View};
 

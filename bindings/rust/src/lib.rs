@@ -1,74 +1,92 @@
 //! Dense BLAS kernels, proved, for f64, f32 and complex numbers over strided views of slices.
 //!
-//! A routine is an associated function of its numbers: `f64::gemm`, `Complex::trsv`. It answers `Ok(())`, or the lowest
-//! refusal met. Refusals 1 to 4 have changed nothing; after `Singular` the target holds what was solved before the zero
-//! pivot was met. [`ProvedBlas`] offers the same routines under the traits of control-rs's `DefaultBlas`.
+//! A routine is an associated function of its numbers, by the trait [`Number`]: `f64::gemm`, `Complex::trsv`. Each
+//! matrix and each vector is a slab, which is a slice, and a [`View`] of it; the last is the target. The crate
+//! needs no `std` and no allocator.
 //!
 //! ```
-//! use zirve_blas::{Number, Trans, View};
-//! let a = [1.0, 2.0, 3.0, 4.0];
-//! let mut y = [f64::NAN, 5.0];
-//! f64::gemv(Trans::NoTrans, 2.0, &a, View::rows_of(2, 2), &[1.0, 1.0], View::vector(2), 0.0, &mut y, View::vector(2)).unwrap();
-//! assert_eq!(y, [6.0, 14.0]);
+//! use zirve_blas::{Number, Refusal, Trans, View};
+//!
+//! fn main() -> Result<(), Refusal> {
+//!     let a = [1.0, 2.0, 3.0, 4.0];
+//!     let x = [1.0, 1.0];
+//!     let mut y = [f64::NAN, 5.0];
+//!     let (square, vector) = (View::rows_of(2, 2), View::vector(2));
+//!     // y ← 2 A x + 0 y; with beta 0 the old y is not read
+//!     f64::gemv(Trans::NoTrans, 2.0, &a, square, &x, vector, 0.0, &mut y, vector)?;
+//!     assert_eq!(y, [6.0, 14.0]);
+//!     Ok(())
+//! }
 //! ```
+//!
+//! # Answers
+//!
+//! A routine answers `Ok(())`, or the lowest [`Refusal`] met; it takes all arguments and does not panic. Refusals 1
+//! to 4 have changed nothing. After [`Refusal::Singular`] the target holds what was solved before the zero pivot
+//! was met, which is said there.
+//!
+//! # From control-rs
+//!
+//! [`ProvedBlas`] offers the routines under the names, type parameters and order of arguments of control-rs's
+//! `DefaultBlas`. The traits are namesakes of control-rs's, not those; the page of [`adapter`] says what changes at a
+//! call, and how a storage of control-rs is passed.
+//!
+//! # The archive
+//!
+//! The kernels are in an archive, which is linked statically: `target/libzirve_blas.a` of the repository, made by
+//! `make archive` there, or the file that the environment variable `ZB_ARCHIVE` names when the crate is built, by its
+//! absolute path. The file may have any name. An archive of f64's functions alone will do for a program that calls no
+//! others. Where the file is missing, or not such an archive, the build fails with one line that says so.
+//!
+//! # The floating-point environment
+//!
+//! What is proved is proved of IEEE 754 arithmetic, rounded to nearest, ties to even. So a call wants the processor
+//! set as a program finds it: rounding to nearest, flush-to-zero and denormals-are-zero off, exceptions masked. No Rust
+//! program sets it otherwise by itself; a C part that is linked can, one built with `-ffast-math` for instance. The
+//! exception flags after a call say nothing.
 
-mod adapter;
+#![no_std]
+#![deny(missing_docs)]
+
+pub mod adapter;
 mod number;
+mod refusal;
+mod view;
 
 pub use adapter::{level2, level3, ProvedBlas, Storage, StorageMut, Strided};
 pub use number::{Complex, Number};
-
-use std::fmt;
-
-/// Element (r, c) is at start + r · rs + c · cs, counted in elements of the slab.
-#[derive(Clone, Copy, Debug, PartialEq, Eq)]
-pub struct View {
-    pub start: u64,
-    pub rows: u64,
-    pub cols: u64,
-    pub rs: i64,
-    pub cs: i64,
-}
-
-impl View {
-    /// A full matrix, row after row.
-    pub const fn rows_of(rows: u64, cols: u64) -> View {
-        View { start: 0, rows, cols, rs: cols as i64, cs: 1 }
-    }
-
-    /// A full matrix, column after column.
-    pub const fn cols_of(rows: u64, cols: u64) -> View {
-        View { start: 0, rows, cols, rs: 1, cs: rows as i64 }
-    }
-
-    /// A vector of n elements, one after another.
-    pub const fn vector(n: u64) -> View {
-        View { start: 0, rows: n, cols: 1, rs: 1, cs: 1 }
-    }
-}
+pub use refusal::Refusal;
+pub use view::View;
 
 /// op(A): the matrix, its transpose, or its conjugate transpose.
 #[derive(Clone, Copy, Debug, PartialEq, Eq)]
 #[repr(u8)]
 pub enum Trans {
+    /// A.
     NoTrans,
+    /// Aᵀ.
     Trans,
+    /// Aᴴ, which is Aᵀ for f64 and f32.
     ConjTrans,
 }
 
-/// The triangle that a routine reads or writes.
+/// The triangle that a routine reads or writes, with its diagonal.
 #[derive(Clone, Copy, Debug, PartialEq, Eq)]
 #[repr(u8)]
 pub enum UpLo {
+    /// On and above the diagonal.
     Upper,
+    /// On and below the diagonal.
     Lower,
 }
 
-/// A Unit diagonal is not read and counts as one.
+/// Whether the diagonal of a triangular matrix is read.
 #[derive(Clone, Copy, Debug, PartialEq, Eq)]
 #[repr(u8)]
 pub enum Diag {
+    /// It is.
     NonUnit,
+    /// It is not, and counts as ones.
     Unit,
 }
 
@@ -76,54 +94,8 @@ pub enum Diag {
 #[derive(Clone, Copy, Debug, PartialEq, Eq)]
 #[repr(u8)]
 pub enum Side {
+    /// A B, or A X = B.
     Left,
+    /// B A, or X A = B.
     Right,
 }
-
-/// Why a call was refused. The numbers are those of the C interface.
-#[derive(Clone, Copy, Debug, PartialEq, Eq, PartialOrd, Ord)]
-#[repr(u8)]
-pub enum Refusal {
-    /// A view has more than 64 rows or columns.
-    TooLarge = 1,
-    /// Some element of a view is outside its slab.
-    OutOfBounds = 2,
-    /// The shapes do not go together, a square matrix is not square, or a vector is no vector.
-    ShapeMismatch = 3,
-    /// Two elements of the target view share a place.
-    Overlap = 4,
-    /// A pivot of a NonUnit solve is zero.
-    Singular = 5,
-}
-
-impl Refusal {
-    pub const fn number(self) -> u8 {
-        self as u8
-    }
-
-    fn of(answer: u8) -> Result<(), Refusal> {
-        match answer {
-            0 => Ok(()),
-            1 => Err(Refusal::TooLarge),
-            2 => Err(Refusal::OutOfBounds),
-            3 => Err(Refusal::ShapeMismatch),
-            4 => Err(Refusal::Overlap),
-            5 => Err(Refusal::Singular),
-            _ => unreachable!("the kernels answer 0 to 5"),
-        }
-    }
-}
-
-impl fmt::Display for Refusal {
-    fn fmt(&self, f: &mut fmt::Formatter<'_>) -> fmt::Result {
-        f.write_str(match self {
-            Refusal::TooLarge => "a view has more than 64 rows or columns",
-            Refusal::OutOfBounds => "some element of a view is outside its slab",
-            Refusal::ShapeMismatch => "the shapes do not go together",
-            Refusal::Overlap => "two elements of the target share a place",
-            Refusal::Singular => "a pivot is zero",
-        })
-    }
-}
-
-impl std::error::Error for Refusal {}

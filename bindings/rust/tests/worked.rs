@@ -1,7 +1,7 @@
-//! Worked examples of document 01 through the bindings, in each number kind, and what refused calls leave.
+//! The worked examples of document 01, W1 to W14, some of them through `ProvedBlas`.
 
 use zirve_blas::level2::{Her, Trsv};
-use zirve_blas::level3::{Gemm, Trsm};
+use zirve_blas::level3::{Gemm, Symm, Trsm};
 use zirve_blas::{Complex, Diag, Number, ProvedBlas, Refusal, Side, Strided, Trans, UpLo, View};
 
 const V2: View = View::vector(2);
@@ -9,6 +9,27 @@ const M22: View = View::rows_of(2, 2);
 
 fn complex(re: f64, im: f64) -> Complex {
     Complex::new(re, im)
+}
+
+#[test]
+fn w1_a_view_may_run_backwards() {
+    let mut y = [0.0];
+    let (digits, slab, one) = ([100.0, 10.0, 1.0], [1.0, 2.0, 3.0], View::vector(1));
+    let backwards = View { start: 2, rows: 3, cols: 1, rs: -1, cs: 1 };
+    let row = View::rows_of(1, 3);
+    assert_eq!(f64::gemv(Trans::NoTrans, 1.0, &digits, row, &slab, backwards, 0.0, &mut y, one), Ok(()));
+    assert_eq!(y, [321.0]);
+}
+
+#[test]
+fn w2_a_target_has_no_place_twice() {
+    let (a, b) = (Strided { slab: [1.0, 2.0], view: V2 }, Strided { slab: [1.0; 3], view: View::rows_of(1, 3) });
+    let mut c = Strided { slab: [9.0; 6], view: View::by_rows(2, 3, 2) };
+    assert_eq!(ProvedBlas::gemm(Trans::NoTrans, Trans::NoTrans, 1.0, &a, &b, 0.0, &mut c), Err(Refusal::Overlap));
+    assert_eq!(c.slab, [9.0; 6]);
+    c.view = View::by_rows(2, 3, 3);
+    assert_eq!(ProvedBlas::gemm(Trans::NoTrans, Trans::NoTrans, 1.0, &a, &b, 0.0, &mut c), Ok(()));
+    assert_eq!(c.slab, [1.0, 1.0, 1.0, 2.0, 2.0, 2.0]);
 }
 
 #[test]
@@ -26,13 +47,19 @@ fn w4_gemv_in_f32() {
 }
 
 #[test]
-fn w13_complex_gemv_conjugates() {
-    let one = View::vector(1);
-    let mut y = [complex(9.0, 9.0)];
-    let a = [complex(1.0, 2.0)];
-    let x = [complex(3.0, 0.0)];
-    assert_eq!(Complex::gemv(Trans::ConjTrans, complex(1.0, 0.0), &a, one, &x, one, complex(0.0, 0.0), &mut y, one), Ok(()));
-    assert_eq!(y, [complex(3.0, -6.0)]);
+fn w5_gemm_without_terms_scales() {
+    let mut c = [1.0, 2.0, 3.0, 4.0];
+    let (a, b) = (View::rows_of(2, 0), View::rows_of(0, 2));
+    assert_eq!(f64::gemm(Trans::NoTrans, Trans::NoTrans, 5.0, &[], a, &[], b, 3.0, &mut c, M22), Ok(()));
+    assert_eq!(c, [3.0, 6.0, 9.0, 12.0]);
+}
+
+#[test]
+fn w6_symm_reads_its_triangle() {
+    let a = Strided { slab: [1.0, 99.0, 2.0, 3.0], view: M22 };
+    let (b, mut c) = (Strided { slab: [1.0, 0.0], view: V2 }, Strided { slab: [9.0; 2], view: V2 });
+    assert_eq!(ProvedBlas::symm(Side::Left, UpLo::Lower, 1.0, &a, &b, 0.0, &mut c), Ok(()));
+    assert_eq!(c.slab, [1.0, 2.0]);
 }
 
 #[test]
@@ -43,18 +70,12 @@ fn w7_syrk_writes_its_triangle() {
 }
 
 #[test]
-fn w14_her_keeps_the_imaginary_part() {
-    let one = View::vector(1);
-    let mut a = Strided { slab: [complex(1.0, 5.0)], view: one };
-    let x = Strided { slab: [complex(1.0, 1.0)], view: one };
-    assert_eq!(ProvedBlas::her(UpLo::Lower, 2.0, &x, &mut a), Ok(()));
-    assert_eq!(a.slab, [complex(5.0, 5.0)]);
-}
-
-#[test]
 fn w8_trmv_skips_the_other_triangle() {
     let mut x = [1.0, 1.0];
-    assert_eq!(f64::trmv(UpLo::Upper, Trans::NoTrans, Diag::NonUnit, &[2.0, 3.0, f64::NAN, 4.0], M22, &mut x, V2), Ok(()));
+    assert_eq!(
+        f64::trmv(UpLo::Upper, Trans::NoTrans, Diag::NonUnit, &[2.0, 3.0, f64::NAN, 4.0], M22, &mut x, V2),
+        Ok(())
+    );
     assert_eq!(x, [5.0, 4.0]);
 }
 
@@ -85,27 +106,30 @@ fn w11_a_right_solve_has_scaled_all_of_b() {
 }
 
 #[test]
-fn refused_calls_change_nothing() {
-    let a = Strided { slab: [1.0, 2.0, 3.0, 4.0], view: M22 };
-    let target = [1.0, 2.0, 3.0, 4.0, 5.0, 6.0];
-    let shapes = [
-        (View { start: 0, rows: 65, cols: 0, rs: 1, cs: 1 }, Refusal::TooLarge),
-        (View { start: 3, rows: 2, cols: 2, rs: 2, cs: 1 }, Refusal::OutOfBounds),
-        (View { start: 0, rows: 2, cols: 3, rs: 3, cs: 1 }, Refusal::ShapeMismatch),
-        (View { start: 0, rows: 2, cols: 2, rs: 1, cs: 1 }, Refusal::Overlap),
-    ];
-    for (view, refusal) in shapes {
-        let mut c = Strided { slab: target, view };
-        assert_eq!(ProvedBlas::gemm(Trans::NoTrans, Trans::NoTrans, 1.0, &a, &a, 1.0, &mut c), Err(refusal));
-        assert_eq!(c.slab, target);
-    }
+fn w12_an_empty_target_meets_no_pivot() {
+    let (a, empty) = ([0.0; 4], View::rows_of(2, 0));
+    let answer = f64::trsm(Side::Left, UpLo::Upper, Trans::NoTrans, Diag::NonUnit, 1.0, &a, M22, &mut [], empty);
+    assert_eq!(answer, Ok(()));
 }
 
 #[test]
-fn a_view_may_run_backwards() {
-    let backwards = View { start: 2, rows: 3, cols: 1, rs: -1, cs: 1 };
-    let mut y = [0.0; 1];
-    let ones = View { start: 0, rows: 1, cols: 3, rs: 3, cs: 1 };
-    assert_eq!(f64::gemv(Trans::NoTrans, 1.0, &[1.0, 10.0, 100.0], ones, &[1.0, 2.0, 3.0], backwards, 0.0, &mut y, View::vector(1)), Ok(()));
-    assert_eq!(y, [123.0]);
+fn w13_complex_gemv_conjugates() {
+    let one = View::vector(1);
+    let mut y = [complex(9.0, 9.0)];
+    let a = [complex(1.0, 2.0)];
+    let x = [complex(3.0, 0.0)];
+    assert_eq!(
+        Complex::gemv(Trans::ConjTrans, complex(1.0, 0.0), &a, one, &x, one, complex(0.0, 0.0), &mut y, one),
+        Ok(())
+    );
+    assert_eq!(y, [complex(3.0, -6.0)]);
+}
+
+#[test]
+fn w14_her_keeps_the_imaginary_part() {
+    let one = View::vector(1);
+    let mut a = Strided { slab: [complex(1.0, 5.0)], view: one };
+    let x = Strided { slab: [complex(1.0, 1.0)], view: one };
+    assert_eq!(ProvedBlas::her(UpLo::Lower, 2.0, &x, &mut a), Ok(()));
+    assert_eq!(a.slab, [complex(5.0, 5.0)]);
 }
