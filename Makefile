@@ -65,7 +65,7 @@ $(PARTS): target/staticlib/libcapi_%.a: \
 	@$(NEED_RT)
 	@mkdir -p target
 	@echo "Proving the kernels of $* and building $@ (some minutes from nothing) .."
-	@RT_JOBS=4 scripts/prove --archive capi_$* target/capi_$*.log $(call under,$(or $(MADE),$*))
+	@RT_JOBS=5 scripts/prove --archive capi_$* target/capi_$*.log $(call under,$(or $(MADE),$*))
 	@touch $@
 
 # The header, the archive and the file for pkg-config, which names PREFIX; DESTDIR is where PREFIX stands for now.

@@ -38,4 +38,5 @@ pub her2-row-spec : {M : Type 1} → statement M
 her2-row-spec = tie.close (tie.spec
     Inv-loop μ-loop (λ c κs. search column-shows) (λ c κs. tt) (λ c κs. tt) (λ c κs. search column-shows) (λ c κs. tt) (λ c κs. tt) (λ c κs. search row-lt)
     (λ c κs. tt) (λ c. (omega arith, search begins, refl, search (span-start K))) her2-entry-requires (λ c. omega arith) (λ c. omega arith)
-    (λ c. (omega arith, omega arith, cc, search (span-next K))) (λ c. search needs) returns)
+    (λ c. (omega arith, omega arith, c .before .before .her2-entry .kept .1 .1 .1 .1 .1 .1 .0 ∙ c .before .before .before .before .before .loop .inv .2, search (span-next K)))
+    (λ c. search needs) returns)
