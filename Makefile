@@ -1,7 +1,8 @@
 # make demo: the two-point path. make test: the gate. The rest builds, installs and tests the archive, and compares with
 # the Rust (oracle/). Only what proves crates needs rt: an archive that is up to date is used as it is.
-.PHONY: demo numbers test kinds archive install c-test c-worked c-faults c-environment c-header c-installed rust-test
-.PHONY: oracle-test lists counts compare bench netlib-examples need-rt need-cargo need-cc need-cxx need-pkg-config
+.PHONY: demo numbers test kinds archive install c-test c-worked c-faults c-stack c-environment c-header c-installed
+.PHONY: rust-test oracle-test lists counts compare bench netlib-examples need-rt need-cargo need-cc need-cxx
+.PHONY: need-pkg-config
 
 # Two runs of rt would meet in target/.
 .NOTPARALLEL:
@@ -82,7 +83,7 @@ install: archive
 	install -m 644 target/zirve-blas.pc "$(INTO)/lib/pkgconfig"
 
 # The tests in C, in tests/c.
-c-test: c-worked c-faults c-environment c-header c-installed
+c-test: c-worked c-faults c-stack c-environment c-header c-installed
 
 C11 = $(CC) -std=c11 -O1 -Wall -Wextra -Iinclude
 
@@ -97,8 +98,13 @@ c-worked: archive need-cc
 
 # Slabs beside pages that may not be touched, and two threads; without the compiler's checks, which catch faults too.
 c-faults: archive need-cc
-	$(C11) -pthread -o target/c-faults tests/c/faults.c tests/c/routines.c $(ARCHIVE)
+	$(C11) -pthread -o target/c-faults $(addprefix tests/c/,faults.c calls.c routines.c) $(ARCHIVE)
 	target/c-faults
+
+# The stack that a call takes.
+c-stack: archive need-cc
+	$(C11) -o target/c-stack $(addprefix tests/c/,stack.c calls.c routines.c) $(ARCHIVE)
+	target/c-stack
 
 # The floating-point environment.
 c-environment: archive need-cc

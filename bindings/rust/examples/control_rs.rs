@@ -9,36 +9,20 @@ use zirve_blas::{ProvedBlas, Refusal, Storage, StorageMut, Strided, Trans, View}
 struct Proved<S>(S);
 
 impl<T, S: DenseStorage<T>> Storage<T> for Proved<S> {
-    fn slab(&self) -> &[T] {
-        let (below, len) = extent(&self.0);
+    fn lend(&self) -> Strided<&[T]> {
         // SAFETY: who implements `DenseStorage` promises that all its places are in one buffer that can be read. The
-        // slice is the part of it from the lowest place to the highest, and is lent no longer than the storage is.
+        // slab is the part of it from the lowest place to the highest, and is lent no longer than the storage is.
         // Between its elements a storage may leave others out; they too are numbers of that buffer, which nobody writes
         // while the storage is lent, as with every storage that control-rs makes of a slice or of its own array.
-        unsafe { std::slice::from_raw_parts(self.0.as_ptr().sub(below), len) }
-    }
-
-    fn view(&self) -> View {
-        let (start, rows, cols) = (extent(&self.0).0 as u64, self.0.rows() as u64, self.0.cols() as u64);
-        View { start, rows, cols, rs: self.0.r_stride() as i64, cs: self.0.c_stride() as i64 }
+        unsafe { Strided::of_ptr(self.0.as_ptr(), self.0.rows(), self.0.cols(), self.0.r_stride(), self.0.c_stride()) }
     }
 }
 
 impl<T, S: ContiguousStorageMut<T>> StorageMut<T> for Proved<S> {
-    fn slab_mut(&mut self) -> &mut [T] {
-        self.0.as_mut_slice()
+    fn lend_mut(&mut self) -> Strided<&mut [T]> {
+        let view = self.lend().view;
+        Strided { slab: self.0.as_mut_slice(), view }
     }
-}
-
-/// How many numbers there are from the storage's lowest place to its element (0, 0), and how many to its highest place.
-fn extent<T, S: DenseStorage<T>>(storage: &S) -> (usize, usize) {
-    if storage.rows() == 0 || storage.cols() == 0 {
-        return (0, 0);
-    }
-    let down = (storage.rows() as isize - 1) * storage.r_stride();
-    let along = (storage.cols() as isize - 1) * storage.c_stride();
-    let (below, above) = (-down.min(0) - along.min(0), down.max(0) + along.max(0));
-    (below as usize, (below + above + 1) as usize)
 }
 
 fn main() -> Result<(), Refusal> {

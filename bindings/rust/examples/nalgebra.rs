@@ -1,7 +1,7 @@
 //! Column-major matrices, as nalgebra holds them, in the routines: whole, a block, a row. Nothing here is `unsafe`.
 
 use zirve_blas::level3::Trsm;
-use zirve_blas::{Diag, Number, ProvedBlas, Refusal, Side, Storage, StorageMut, Trans, UpLo, View};
+use zirve_blas::{Diag, Number, ProvedBlas, Refusal, Side, Storage, StorageMut, Strided, Trans, UpLo, View};
 
 /// Stands for nalgebra's `DMatrix<f64>`, on which this crate does not depend, with the names of its functions.
 struct DMatrix {
@@ -51,18 +51,15 @@ fn row(m: &DMatrix, row: usize) -> View {
 struct Proved(DMatrix);
 
 impl Storage<f64> for Proved {
-    fn slab(&self) -> &[f64] {
-        self.0.as_slice()
-    }
-
-    fn view(&self) -> View {
-        whole(&self.0)
+    fn lend(&self) -> Strided<&[f64]> {
+        Strided { slab: self.0.as_slice(), view: whole(&self.0) }
     }
 }
 
 impl StorageMut<f64> for Proved {
-    fn slab_mut(&mut self) -> &mut [f64] {
-        self.0.as_mut_slice()
+    fn lend_mut(&mut self) -> Strided<&mut [f64]> {
+        let view = whole(&self.0);
+        Strided { slab: self.0.as_mut_slice(), view }
     }
 }
 
