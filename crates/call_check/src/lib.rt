@@ -106,8 +106,9 @@ fn answer_of(n: u8) -> Answer
     }
 }
 
-// A call with two views, the second its target: it is judged as one that has the second twice.
-fn judge2(a: View, la: usize, b: View, lb: usize, shapes: bool) -> Answer
+// A call with two views, the second its target: it is judged as one that has the second twice. Where the flags are out of their
+// range no shapes go together.
+pub fn judge2(a: View, la: usize, b: View, lb: usize, shapes: bool) -> Answer
     ensures { λ r. ⌜ r ≡ judge (arg a la ∷ arg b lb ∷ []) shapes b ⌝ }
 {
     answer_of(number_of(
@@ -134,7 +135,7 @@ fn judge2(a: View, la: usize, b: View, lb: usize, shapes: bool) -> Answer
 }
 
 // A call with three views, the third its target.
-fn judge3(a: View, la: usize, b: View, lb: usize, c: View, lc: usize, shapes: bool) -> Answer
+pub fn judge3(a: View, la: usize, b: View, lb: usize, c: View, lc: usize, shapes: bool) -> Answer
     ensures { λ r. ⌜ r ≡ judge (arg a la ∷ arg b lb ∷ arg c lc ∷ []) shapes c ⌝ }
 {
     answer_of(number_of(
@@ -157,59 +158,6 @@ fn judge3(a: View, la: usize, b: View, lb: usize, c: View, lc: usize, shapes: bo
         c.cs,
         lc,
         shapes,
-    ))
-}
-
-// The refusal of a call whose shapes cannot go together, as one with a flag out of its range.
-pub fn refuse2(a: View, la: usize, b: View, lb: usize) -> Answer
-    ensures { λ r. ⌜ r ≡ judge (arg a la ∷ arg b lb ∷ []) false b ⌝ }
-{
-    answer_of(number_of(
-        a.start,
-        a.rows,
-        a.cols,
-        a.rs,
-        a.cs,
-        la,
-        b.start,
-        b.rows,
-        b.cols,
-        b.rs,
-        b.cs,
-        lb,
-        b.start,
-        b.rows,
-        b.cols,
-        b.rs,
-        b.cs,
-        lb,
-        false,
-    ))
-}
-
-pub fn refuse3(a: View, la: usize, b: View, lb: usize, c: View, lc: usize) -> Answer
-    ensures { λ r. ⌜ r ≡ judge (arg a la ∷ arg b lb ∷ arg c lc ∷ []) false c ⌝ }
-{
-    answer_of(number_of(
-        a.start,
-        a.rows,
-        a.cols,
-        a.rs,
-        a.cs,
-        la,
-        b.start,
-        b.rows,
-        b.cols,
-        b.rs,
-        b.cs,
-        lb,
-        c.start,
-        c.rows,
-        c.cols,
-        c.rs,
-        c.cs,
-        lc,
-        false,
     ))
 }
 

@@ -4,8 +4,8 @@ ghost use Rattle.number.specs.Kind.{complex};
 ghost use Rattle.slab.specs.Elem.{lent};
 ghost use Rattle.capi_flags.specs.Interface.{complexOf, gemmC, gemvC, hemmC, hemvC, her2C, her2kC, herC, herkC, symmC, syr2kC, syrkC, trmmC, trmvC, trsmC, trsvC, Returns};
 ghost use Rattle.view.specs.Place.{viewOf};
-use call_check::refuse2;
-use call_check::refuse3;
+use call_check::judge2;
+use call_check::judge3;
 use capi_flags::diag_of;
 use capi_flags::is_side_uplo;
 use capi_flags::is_side_uplo_trans_diag;
@@ -72,7 +72,7 @@ pub extern "C" fn zb_zgemv(
             vy,
         ))
     } else {
-        number(refuse3(va, a.len() / 2, vx, x.len() / 2, vy, y.len() / 2))
+        number(judge3(va, a.len() / 2, vx, x.len() / 2, vy, y.len() / 2, false))
     }
 }
 
@@ -127,7 +127,7 @@ pub extern "C" fn zb_zhemv(
             vy,
         ))
     } else {
-        number(refuse3(va, a.len() / 2, vx, x.len() / 2, vy, y.len() / 2))
+        number(judge3(va, a.len() / 2, vx, x.len() / 2, vy, y.len() / 2, false))
     }
 }
 
@@ -184,7 +184,7 @@ pub extern "C" fn zb_zgemm(
             vc,
         ))
     } else {
-        number(refuse3(va, a.len() / 2, vb, b.len() / 2, vc, c.len() / 2))
+        number(judge3(va, a.len() / 2, vb, b.len() / 2, vc, c.len() / 2, false))
     }
 }
 
@@ -241,7 +241,7 @@ pub extern "C" fn zb_zsymm(
             vc,
         ))
     } else {
-        number(refuse3(va, a.len() / 2, vb, b.len() / 2, vc, c.len() / 2))
+        number(judge3(va, a.len() / 2, vb, b.len() / 2, vc, c.len() / 2, false))
     }
 }
 
@@ -298,7 +298,7 @@ pub extern "C" fn zb_zhemm(
             vc,
         ))
     } else {
-        number(refuse3(va, a.len() / 2, vb, b.len() / 2, vc, c.len() / 2))
+        number(judge3(va, a.len() / 2, vb, b.len() / 2, vc, c.len() / 2, false))
     }
 }
 
@@ -346,7 +346,7 @@ pub extern "C" fn zb_zsyrk(
             vc,
         ))
     } else {
-        number(refuse2(va, a.len() / 2, vc, c.len() / 2))
+        number(judge2(va, a.len() / 2, vc, c.len() / 2, false))
     }
 }
 
@@ -386,7 +386,7 @@ pub extern "C" fn zb_zherk(
             vc,
         ))
     } else {
-        number(refuse2(va, a.len() / 2, vc, c.len() / 2))
+        number(judge2(va, a.len() / 2, vc, c.len() / 2, false))
     }
 }
 
@@ -415,7 +415,7 @@ pub extern "C" fn zb_zher(
     if is_uplo(uplo) {
         number(rank_complex::her::her(uplo_of(uplo), alpha, x, vx, a, va))
     } else {
-        number(refuse2(vx, x.len() / 2, va, a.len() / 2))
+        number(judge2(vx, x.len() / 2, va, a.len() / 2, false))
     }
 }
 
@@ -464,7 +464,7 @@ pub extern "C" fn zb_zher2(
             va,
         ))
     } else {
-        number(refuse3(vx, x.len() / 2, vy, y.len() / 2, va, a.len() / 2))
+        number(judge3(vx, x.len() / 2, vy, y.len() / 2, va, a.len() / 2, false))
     }
 }
 
@@ -521,7 +521,7 @@ pub extern "C" fn zb_zsyr2k(
             vc,
         ))
     } else {
-        number(refuse3(va, a.len() / 2, vb, b.len() / 2, vc, c.len() / 2))
+        number(judge3(va, a.len() / 2, vb, b.len() / 2, vc, c.len() / 2, false))
     }
 }
 
@@ -574,7 +574,7 @@ pub extern "C" fn zb_zher2k(
             vc,
         ))
     } else {
-        number(refuse3(va, a.len() / 2, vb, b.len() / 2, vc, c.len() / 2))
+        number(judge3(va, a.len() / 2, vb, b.len() / 2, vc, c.len() / 2, false))
     }
 }
 
@@ -612,7 +612,7 @@ pub extern "C" fn zb_ztrmv(
             vx,
         ))
     } else {
-        number(refuse2(va, a.len() / 2, vx, x.len() / 2))
+        number(judge2(va, a.len() / 2, vx, x.len() / 2, false))
     }
 }
 
@@ -650,7 +650,7 @@ pub extern "C" fn zb_ztrsv(
             vx,
         ))
     } else {
-        number(refuse2(va, a.len() / 2, vx, x.len() / 2))
+        number(judge2(va, a.len() / 2, vx, x.len() / 2, false))
     }
 }
 
@@ -696,7 +696,7 @@ pub extern "C" fn zb_ztrmm(
             vb,
         ))
     } else {
-        number(refuse2(va, a.len() / 2, vb, b.len() / 2))
+        number(judge2(va, a.len() / 2, vb, b.len() / 2, false))
     }
 }
 
@@ -742,6 +742,6 @@ pub extern "C" fn zb_ztrsm(
             vb,
         ))
     } else {
-        number(refuse2(va, a.len() / 2, vb, b.len() / 2))
+        number(judge2(va, a.len() / 2, vb, b.len() / 2, false))
     }
 }

@@ -4,8 +4,8 @@ ghost use Rattle.number.specs.Kind.{real64};
 ghost use Rattle.slab.specs.Elem.{lent};
 ghost use Rattle.capi_flags.specs.Interface.{gemmC, gemvC, hemmC, hemvC, her2C, her2kC, herC, herkC, symmC, syr2kC, syrkC, trmmC, trmvC, trsmC, trsvC, Returns};
 ghost use Rattle.view.specs.Place.{viewOf};
-use call_check::refuse2;
-use call_check::refuse3;
+use call_check::judge2;
+use call_check::judge3;
 use capi_flags::diag_of;
 use capi_flags::is_side_uplo;
 use capi_flags::is_side_uplo_trans_diag;
@@ -64,7 +64,7 @@ pub extern "C" fn zb_dgemv(
             vy,
         ))
     } else {
-        number(refuse3(va, a.len(), vx, x.len(), vy, y.len()))
+        number(judge3(va, a.len(), vx, x.len(), vy, y.len(), false))
     }
 }
 
@@ -111,7 +111,7 @@ pub extern "C" fn zb_dhemv(
             vy,
         ))
     } else {
-        number(refuse3(va, a.len(), vx, x.len(), vy, y.len()))
+        number(judge3(va, a.len(), vx, x.len(), vy, y.len(), false))
     }
 }
 
@@ -160,7 +160,7 @@ pub extern "C" fn zb_dgemm(
             vc,
         ))
     } else {
-        number(refuse3(va, a.len(), vb, b.len(), vc, c.len()))
+        number(judge3(va, a.len(), vb, b.len(), vc, c.len(), false))
     }
 }
 
@@ -209,7 +209,7 @@ pub extern "C" fn zb_dsymm(
             vc,
         ))
     } else {
-        number(refuse3(va, a.len(), vb, b.len(), vc, c.len()))
+        number(judge3(va, a.len(), vb, b.len(), vc, c.len(), false))
     }
 }
 
@@ -258,7 +258,7 @@ pub extern "C" fn zb_dhemm(
             vc,
         ))
     } else {
-        number(refuse3(va, a.len(), vb, b.len(), vc, c.len()))
+        number(judge3(va, a.len(), vb, b.len(), vc, c.len(), false))
     }
 }
 
@@ -298,7 +298,7 @@ pub extern "C" fn zb_dsyrk(
             vc,
         ))
     } else {
-        number(refuse2(va, a.len(), vc, c.len()))
+        number(judge2(va, a.len(), vc, c.len(), false))
     }
 }
 
@@ -338,7 +338,7 @@ pub extern "C" fn zb_dherk(
             vc,
         ))
     } else {
-        number(refuse2(va, a.len(), vc, c.len()))
+        number(judge2(va, a.len(), vc, c.len(), false))
     }
 }
 
@@ -367,7 +367,7 @@ pub extern "C" fn zb_dher(
     if is_uplo(uplo) {
         number(rank_real64::her::her(uplo_of(uplo), alpha, x, vx, a, va))
     } else {
-        number(refuse2(vx, x.len(), va, a.len()))
+        number(judge2(vx, x.len(), va, a.len(), false))
     }
 }
 
@@ -403,7 +403,7 @@ pub extern "C" fn zb_dher2(
     if is_uplo(uplo) {
         number(rank_real64::her2::her2(uplo_of(uplo), Real64(alpha), x, vx, y, vy, a, va))
     } else {
-        number(refuse3(vx, x.len(), vy, y.len(), va, a.len()))
+        number(judge3(vx, x.len(), vy, y.len(), va, a.len(), false))
     }
 }
 
@@ -452,7 +452,7 @@ pub extern "C" fn zb_dsyr2k(
             vc,
         ))
     } else {
-        number(refuse3(va, a.len(), vb, b.len(), vc, c.len()))
+        number(judge3(va, a.len(), vb, b.len(), vc, c.len(), false))
     }
 }
 
@@ -501,7 +501,7 @@ pub extern "C" fn zb_dher2k(
             vc,
         ))
     } else {
-        number(refuse3(va, a.len(), vb, b.len(), vc, c.len()))
+        number(judge3(va, a.len(), vb, b.len(), vc, c.len(), false))
     }
 }
 
@@ -539,7 +539,7 @@ pub extern "C" fn zb_dtrmv(
             vx,
         ))
     } else {
-        number(refuse2(va, a.len(), vx, x.len()))
+        number(judge2(va, a.len(), vx, x.len(), false))
     }
 }
 
@@ -577,7 +577,7 @@ pub extern "C" fn zb_dtrsv(
             vx,
         ))
     } else {
-        number(refuse2(va, a.len(), vx, x.len()))
+        number(judge2(va, a.len(), vx, x.len(), false))
     }
 }
 
@@ -619,7 +619,7 @@ pub extern "C" fn zb_dtrmm(
             vb,
         ))
     } else {
-        number(refuse2(va, a.len(), vb, b.len()))
+        number(judge2(va, a.len(), vb, b.len(), false))
     }
 }
 
@@ -661,6 +661,6 @@ pub extern "C" fn zb_dtrsm(
             vb,
         ))
     } else {
-        number(refuse2(va, a.len(), vb, b.len()))
+        number(judge2(va, a.len(), vb, b.len(), false))
     }
 }

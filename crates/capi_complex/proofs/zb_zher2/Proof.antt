@@ -14,4 +14,4 @@ zb-zher2-spec = tie.close (tie.spec
     (λ c. let s = c .before .before in let v = s .before .before in let f = v .before .before .before .before .before .before .fits in
     let vx = view-is (f .xrs) (f .xcs) (v .before .before .view-of .ensures) in let vy = view-is (f .yrs) (f .ycs) (v .before .view-of2 .ensures) in
     let va = view-is (f .ars) (f .acs) (v .view-of3 .ensures) in refused _ (s .before .is-uplo .ensures) (s .if1 .left)
-    (rw (vx, vy, va) at (c .before .refuse3 .ensures)) (c .number2 .ensures)))
+    (rw (vx, vy, va) at (c .before .judge3 .ensures)) (c .number2 .ensures)))

@@ -13,4 +13,4 @@ zb-ztrmv-spec = tie.close (tie.spec
     (c .number .ensures))
     (λ c. let s = c .before .before in let v = s .before .before in let f = v .before .before .before .before .fits in
     let va = view-is (f .ars) (f .acs) (v .before .view-of .ensures) in let vx = view-is (f .xrs) (f .xcs) (v .view-of2 .ensures) in
-    refused _ (s .before .is-uplo-trans-diag .ensures) (s .if1 .left) (rw (va, vx) at (c .before .refuse2 .ensures)) (c .number2 .ensures)))
+    refused _ (s .before .is-uplo-trans-diag .ensures) (s .if1 .left) (rw (va, vx) at (c .before .judge2 .ensures)) (c .number2 .ensures)))

@@ -14,4 +14,4 @@ zb-ztrsm-spec = tie.close (tie.spec
     (c .number .ensures))
     (λ c. let s = c .before .before in let v = s .before .before in let f = v .before .before .before .before .fits in
     let va = view-is (f .ars) (f .acs) (v .before .view-of .ensures) in let vb = view-is (f .brs) (f .bcs) (v .view-of2 .ensures) in
-    refused _ (s .before .is-side-uplo-trans-diag .ensures) (s .if1 .left) (rw (va, vb) at (c .before .refuse2 .ensures)) (c .number2 .ensures)))
+    refused _ (s .before .is-side-uplo-trans-diag .ensures) (s .if1 .left) (rw (va, vb) at (c .before .judge2 .ensures)) (c .number2 .ensures)))

@@ -14,4 +14,4 @@ zb-shemv-spec = tie.close (tie.spec
     (λ c. let s = c .before .before in let v = s .before .before in let f = v .before .before .before .before .before .before .fits in
     let va = view-is (f .ars) (f .acs) (v .before .before .view-of .ensures) in let vx = view-is (f .xrs) (f .xcs) (v .before .view-of2 .ensures) in
     let vy = view-is (f .yrs) (f .ycs) (v .view-of3 .ensures) in refused _ (s .before .is-uplo .ensures) (s .if1 .left)
-    (rw (va, vx, vy) at (c .before .refuse3 .ensures)) (c .number2 .ensures)))
+    (rw (va, vx, vy) at (c .before .judge3 .ensures)) (c .number2 .ensures)))

@@ -12,4 +12,4 @@ zb-sher-spec = tie.close (tie.spec
     (rw (g .uplo-of .ensures, vx, va) at (c .before .before .before .her .ensures)) (c .number .ensures))
     (λ c. let s = c .before .before in let v = s .before .before in let f = v .before .before .before .before .fits in
     let vx = view-is (f .xrs) (f .xcs) (v .before .view-of .ensures) in let va = view-is (f .ars) (f .acs) (v .view-of2 .ensures) in
-    refused _ (s .before .is-uplo .ensures) (s .if1 .left) (rw (vx, va) at (c .before .refuse2 .ensures)) (c .number2 .ensures)))
+    refused _ (s .before .is-uplo .ensures) (s .if1 .left) (rw (vx, va) at (c .before .judge2 .ensures)) (c .number2 .ensures)))

@@ -14,4 +14,4 @@ zb-dhemm-spec = tie.close (tie.spec
     (λ c. let s = c .before .before in let v = s .before .before in let f = v .before .before .before .before .before .before .fits in
     let va = view-is (f .ars) (f .acs) (v .before .before .view-of .ensures) in let vb = view-is (f .brs) (f .bcs) (v .before .view-of2 .ensures) in
     let vc = view-is (f .crs) (f .ccs) (v .view-of3 .ensures) in refused _ (s .before .is-side-uplo .ensures) (s .if1 .left)
-    (rw (va, vb, vc) at (c .before .refuse3 .ensures)) (c .number2 .ensures)))
+    (rw (va, vb, vc) at (c .before .judge3 .ensures)) (c .number2 .ensures)))

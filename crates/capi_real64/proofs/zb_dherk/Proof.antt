@@ -12,4 +12,4 @@ zb-dherk-spec = tie.close (tie.spec
     (rw (g .before .uplo-of .ensures, g .trans-of .ensures, va, vc) at (c .before .before .before .herk .ensures)) (c .number .ensures))
     (λ c. let s = c .before .before in let v = s .before .before in let f = v .before .before .before .before .fits in
     let va = view-is (f .ars) (f .acs) (v .before .view-of .ensures) in let vc = view-is (f .crs) (f .ccs) (v .view-of2 .ensures) in
-    refused _ (s .before .is-uplo-trans .ensures) (s .if1 .left) (rw (va, vc) at (c .before .refuse2 .ensures)) (c .number2 .ensures)))
+    refused _ (s .before .is-uplo-trans .ensures) (s .if1 .left) (rw (va, vc) at (c .before .judge2 .ensures)) (c .number2 .ensures)))
