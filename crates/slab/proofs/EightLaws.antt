@@ -4,11 +4,11 @@ use mathlib.Core.List.{List}
 use mathlib.Core.Path.{_≡_, refl, sym, ap, subst, _∙_}
 use native.Mathlib.Decide.{ℕ-discrete}
 use native.Mathlib.Omega.{arith}
-use lib.Ieee.{Float, Format, nan}
+use lib.Ieee.{Float, nan}
 use lib.ListN.{replicate, length-replicate, getD-replicate}
-use Rattle.number.specs.Kind.{Kind, real, complex}
+use Rattle.number.specs.Kind.{Kind, complex}
 use Rattle.number.specs.Laws.{SlabLaws}
-use Rattle.slab.specs.Eight.{Eight, Lanes}
+use Rattle.slab.specs.Eight.{Lanes}
 
 -- the first t of them are f's, and the others are still as given
 pub record PartOf (K : Kind) (n : ℕ) (f : ℕ → K .Elem) (given s : List (K .Cell)) (t : ℕ) : Type 0 where
@@ -49,10 +49,6 @@ module _ {n : ℕ} (K : Kind) (L : SlabLaws K) (f : ℕ → K .Elem) (given : Li
 -- what the sums are may be said in another way
 pub eight-same : {n : ℕ} (K : Kind) (s : List (K .Cell)) (f g : ℕ → K .Elem) → Lanes K n s f → ((t : ℕ) → t < n → f t ≡ g t) → Lanes K n s g
 eight-same K s f g h e = record { count = h .count; sum = λ t l. h .sum t l ∙ e t l }
-
--- eight times the same number
-pub eight-of : (r : Format) (x : Float) → Eight (real r) (replicate 8 x) (λ t. x)
-eight-of r x = record { count = length-replicate 8 x; sum = λ t l. getD-replicate 8 t x nan l }
 
 -- eight equal floats are four equal complex numbers
 pub four-of : (x : Float) → Lanes complex 4 (replicate 8 x) (λ t. record { re = x; im = x })

@@ -47,7 +47,7 @@ pub fn put(s: &mut [f32], k: usize, x: Real32)
 pub fn zeros() -> [f32; 8]
     ensures { λ r. ⌜ Eight real32 r (λ t. real32 .zero) ⌝ }
 {
-    [0.0; 8]
+    [Real32::ZERO.0; 8]
 }
 
 // Plus x times the eight elements of row p of a view from column j on.

@@ -47,7 +47,7 @@ pub fn put(s: &mut [f64], k: usize, x: Real64)
 pub fn zeros() -> [f64; 8]
     ensures { λ r. ⌜ Eight real64 r (λ t. real64 .zero) ⌝ }
 {
-    [0.0; 8]
+    [Real64::ZERO.0; 8]
 }
 
 // Plus x times the eight elements of row p of a view from column j on.

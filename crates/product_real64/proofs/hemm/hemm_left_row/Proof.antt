@@ -12,6 +12,6 @@ hemm-left-row-spec = tie.close (tie.spec
     (λ c κs. tt) (λ c. (omega arith, refl, row-begun _ _ _ _ _ _))
     (λ c κs. (search folded-kept, search needs, search needs, c .before .before .before .before .turn-at .ensures ∙ c .before .before .before .before .before .before .before .before .pre .1 .same _ _))
     (λ c. omega arith) (λ c. omega arith)
-    (λ c. (omega arith, cc, search (put-next K)))
+    (λ c. (omega arith, c .before .before .small-entry .kept .1 .1 .1 .1 .1 .1 .0 ∙ c .before .before .before .before .before .loop .inv .1, search (put-next K)))
     (λ c. search needs)
     (λ c. search (row-last K)))

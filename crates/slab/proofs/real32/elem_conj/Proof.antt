@@ -1,5 +1,6 @@
 -- The flag is matched: the element's conjugate, or the element as it is (Run: elemConj).
-use Rattle.slab.proofs.Words.{_∙_, ap, real32}
+use Rattle.number.specs.Kind.{real32}
+use Rattle.slab.proofs.Words.{_∙_, ap}
 use Rattle.slab.proofs.real32.elem_conj.Statement.{statement}
 use Rattle.slab.proofs.real32.elem_conj.Tie as tie
 

@@ -1,5 +1,6 @@
 -- The flag is matched: the element's conjugate, or the element as it is (Run: elemConj).
-use Rattle.slab.proofs.Words.{_∙_, ap, real64}
+use Rattle.number.specs.Kind.{real64}
+use Rattle.slab.proofs.Words.{_∙_, ap}
 use Rattle.slab.proofs.real64.elem_conj.Statement.{statement}
 use Rattle.slab.proofs.real64.elem_conj.Tie as tie
 
