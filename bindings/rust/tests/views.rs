@@ -1,6 +1,6 @@
 //! What views show, and that every view can be made and passed.
 
-use zirve_blas::{Number, Refusal, Trans, View};
+use zirve_blas::{Number, Refusal, Strided, Trans, View};
 
 const NO: Trans = Trans::NoTrans;
 
@@ -85,4 +85,18 @@ fn the_largest_numbers_lead_off_the_slab() {
     }
     assert_eq!(shown(View::by_rows(1, 2, far)), [0.0, 1.0]);
     assert_eq!(shown(View::by_cols(2, 1, far)), [0.0, 1.0]);
+}
+
+#[test]
+fn a_pointer_and_strides_span_their_slab() {
+    let slab = slab();
+    for (first, rs, cs) in [(0, 5, 2), (10, -5, 2), (4, 5, -2), (14, -5, -2)] {
+        // SAFETY: 3 rows and 3 columns from there lie on places 0 to 14 of the slab, which stays as it is.
+        let matrix = unsafe { Strided::of_ptr(&slab[first], 3, 3, rs, cs) };
+        assert_eq!(matrix.slab, &slab[..15]);
+        assert_eq!(matrix.view, View { start: first as u64, rows: 3, cols: 3, rs: rs as i64, cs: cs as i64 });
+    }
+    // SAFETY: no element.
+    let empty = unsafe { Strided::<&[f64]>::of_ptr(std::ptr::null(), 3, 0, -5, 2) };
+    assert_eq!((empty.slab.len(), empty.view.start, empty.view.rows, empty.view.cols), (0, 0, 3, 0));
 }
