@@ -1,13 +1,12 @@
 /* The stack of every function, over the calls of calls.c: each call is made on a stack of its own, painted before, and
- * what it has written to is counted, its arguments and its return address with it. Real symm and hemm, which hold plans
- * of several views, stay under two kilobytes, all others under one. */
+ * what it has written to is counted, its arguments and its return address with it. It is under one kilobyte. */
 #define _GNU_SOURCE
 #include "calls.h"
 #include <stdio.h>
 #include <string.h>
 #include <ucontext.h>
 
-enum { STACK = 1 << 15, DEEPEST = 1 << 13, PAINT = 0xA5 };
+enum { STACK = 1 << 15, DEEPEST = 1 << 13, PAINT = 0xA5, BOUND = 1023 };
 
 static unsigned char stack[STACK];
 static ucontext_t here, there;
@@ -40,11 +39,6 @@ static uint8_t measured(const struct call *c) {
     return answer;
 }
 
-static size_t bound(const char *name) {
-    int real = name[3] != 'z', folded = strcmp(name + 4, "symm") == 0 || strcmp(name + 4, "hemm") == 0;
-    return real && folded ? 2047 : 1023;
-}
-
 int main(void) {
     int failed = 0;
     unsigned calls = 0;
@@ -56,7 +50,7 @@ int main(void) {
         r.run = measured;
         deepest = 0;
         work(&w);
-        int ok = w.wrong == 0 && deepest <= bound(r.name);
+        int ok = w.wrong == 0 && deepest <= BOUND;
         failed += !ok;
         printf("%s: %zu bytes of stack: %s\n", r.name, deepest, ok ? "ok" : "FAILED");
         calls += w.calls;

@@ -13,6 +13,7 @@ use Rattle.slab.specs.Eight.{Eight, Lanes, Block}
 use Rattle.slab.specs.Run.{elemConj, plusTerms}
 use Rattle.slab.specs.Update.{everywhere, span, spanRows, updateRows}
 use Rattle.slab.proofs.EightLaws.{eight-same}
+use Rattle.slab.proofs.RunLaws.{plus-on}
 use Rattle.slab.proofs.LoopLaws.{span-same, rows-span-after}
 use Rattle.slab.proofs.Shown.{beside}
 use Rattle.blas.specs.Matrix.{Matrix, sum, accumulate}
@@ -20,14 +21,18 @@ use Rattle.blas.proofs.OpLaws.{transposed-elem}
 use Rattle.blas.proofs.SumLaws.{sum-start, sum-next, sum-end}
 use Rattle.product_plan.specs.declared.plan.Factors.{Factors}
 use Rattle.product_plan.specs.declared.plan.Folded.{Folded}
-use Rattle.product_plan.specs.Plan.{term, termsBefore, turnedSum, foldedProduct, Turns}
-use Rattle.product_plan.proofs.Sums.{plus-start, plus-end, plus-join, sum-whole, real-next, real-sum-next, folded-sum}
+use Rattle.product_plan.specs.Plan.{term, termsBefore, foldedTerm, foldedProduct}
+use Rattle.product_plan.proofs.Sums.{plus-start, plus-end, sum-whole, real-next, real-sum-next, folded-sum, folded-thirds}
 
 -- ---- terms added to each of eight sums, x t being what sum t began with
 
 module _ (K : Kind) (x : ℕ → K .Elem) (g : ℕ → ℕ → K .Elem) where
   pub eight-start : (s : List (K .Cell)) (from : ℕ) → Eight K s x → Eight K s (λ t. plusTerms K (x t) (g t) from (from - from))
   eight-start s from h = eight-same K s _ _ h (λ t l. plus-start K (g t) (x t) from)
+
+  pub eight-on : (sums next : List (K .Cell)) (from p : ℕ) → from ≤ p → Eight K sums (λ t. plusTerms K (x t) (g t) from (p - from)) → Eight K next (λ t. K .add (K .at sums t) (g t p))
+      → Eight K next (λ t. plusTerms K (x t) (g t) from (p + 1 - from))
+  eight-on sums next from p h e n = eight-same K next _ _ n (λ t l. plus-on K (g t) (x t) from p (K .at sums t) (g t p) _ h (e .sum t l) refl refl)
 
   pub eight-end : (s : List (K .Cell)) (from p end : ℕ) → p ≤ end → end ≤ p → Eight K s (λ t. plusTerms K (x t) (g t) from (p - from))
       → Eight K s (λ t. plusTerms K (x t) (g t) from (end - from))
@@ -84,46 +89,30 @@ column-sums-next K S C f a b i p sums next u e eu n =
     (C .commutes u (elem K a (transposedOf (f .left)) p (i + t)) ∙ ap (λ z. K .mul z u) (transposed-elem K a (f .left) p (i + t)))
     refl)
 
--- ---- the eight of a folded plan: before they turn, while they do, after
+-- ---- the eight of a folded plan
 
-pub folded-eights : (K : Kind) (plan : Folded) (a b : List (K .Cell)) (la lb i j k l : ℕ) (zeros head bent sums : List (K .Cell)) → Turns plan la lb i j k l → Eight K zeros (λ t. K .zero)
+-- all turn after k terms
+pub folded-halves : (K : Kind) (plan : Folded) (a b : List (K .Cell)) (i j k : ℕ) (zeros head sums : List (K .Cell)) → ((t : ℕ) → k ≡ termsBefore (plan .turn) i (j + t)) → k ≤ plan .terms
+    → Eight K zeros (λ t. K .zero)
     → Eight K head (λ t. plusTerms K (K .at zeros t) (term K (plan .head) a b i (j + t)) 0 (k - 0))
-    → Eight K bent (λ t. turnedSum K plan a b i (j + t) k l (K .at head t))
+    → Eight K sums (λ t. plusTerms K (K .at head t) (term K (plan .tail) a b i (j + t)) k (plan .terms - k))
+    → Eight K sums (λ t. foldedProduct K plan a b i (j + t))
+folded-halves K plan a b i j k zeros head sums ek h z eh es =
+    record { count = es .count; sum = λ t q. folded-sum K plan a b i (j + t) k (K .at zeros t) (K .at head t) (K .at sums t) (ek t) h (z .sum t q) (eh .sum t q) (es .sum t q) }
+
+-- each turns among the terms from k to before l
+pub folded-eights : (K : Kind) (plan : Folded) (a b : List (K .Cell)) (i j k l : ℕ) (zeros head bent sums : List (K .Cell)) → ((t : ℕ) → t < 8 → k ≤ termsBefore (plan .turn) i (j + t))
+    → ((t : ℕ) → t < 8 → termsBefore (plan .turn) i (j + t) ≤ l) → l ≤ plan .terms
+    → Eight K zeros (λ t. K .zero)
+    → Eight K head (λ t. plusTerms K (K .at zeros t) (term K (plan .head) a b i (j + t)) 0 (k - 0))
+    → Eight K bent (λ t. plusTerms K (K .at head t) (foldedTerm K plan a b i (j + t)) k (l - k))
     → Eight K sums (λ t. plusTerms K (K .at bent t) (term K (plan .tail) a b i (j + t)) l (plan .terms - l))
     → Eight K sums (λ t. foldedProduct K plan a b i (j + t))
-folded-eights K plan a b la lb i j k l zeros head bent sums h z eh eb es =
-    record { count = es .count; sum = λ t q. folded-sum K plan a b i (j + t) (turn t) (K .at zeros t) (before t) (K .at sums t) refl (omega (arith, h .high t q, h .room)) (z .sum t q) (from-start t q) (to-end t q) }
-  where
-    turn : ℕ → ℕ
-    turn t = termsBefore (plan .turn) i (j + t)
-
-    before : ℕ → K .Elem
-    before t = plusTerms K (K .at head t) (term K (plan .head) a b i (j + t)) k (turn t - k)
-
-    from-start : (t : ℕ) → t < 8 → before t ≡ plusTerms K (K .at zeros t) (term K (plan .head) a b i (j + t)) 0 (turn t - 0)
-    from-start t q =
-        ap (λ y. plusTerms K y (term K (plan .head) a b i (j + t)) k (turn t - k)) (eh .sum t q)
-        ∙ plus-join K (term K (plan .head) a b i (j + t)) (K .at zeros t) 0 k (turn t) (omega arith) (h .low t q)
-
-    to-end : (t : ℕ) → t < 8 → K .at sums t ≡ plusTerms K (before t) (term K (plan .tail) a b i (j + t)) (turn t) (plan .terms - turn t)
-    to-end t q =
-        es .sum t q
-        ∙ ap (λ y. plusTerms K y (term K (plan .tail) a b i (j + t)) l (plan .terms - l)) (eb .sum t q)
-        ∙ plus-join K (term K (plan .tail) a b i (j + t)) (before t) (turn t) l (plan .terms) (h .high t q) (h .room)
-
--- where the eight turn at once, nothing is added between
-pub turn-at-once : (K : Kind) (plan : Folded) (a b : List (K .Cell)) (la lb i j from end : ℕ) (sums : List (K .Cell)) → Turns plan la lb i j from end → end ≤ from → K .count sums ≡ 8
-    → Eight K sums (λ t. turnedSum K plan a b i (j + t) from end (K .at sums t))
-turn-at-once K plan a b la lb i j from end sums h g n =
-    record { count = n; sum = λ t q. none t q (h .low t q) (h .high t q) }
-  where
-    none : (t : ℕ) → t < 8 → from ≤ termsBefore (plan .turn) i (j + t) → termsBefore (plan .turn) i (j + t) ≤ end → K .at sums t ≡ turnedSum K plan a b i (j + t) from end (K .at sums t)
-    none t q low high =
-        let turn = termsBefore (plan .turn) i (j + t) in
-        let e : from ≡ turn = omega arith in
-        let d : turn ≡ end = omega arith in
-        plus-end K (term K (plan .head) a b i (j + t)) (K .at sums t) (K .at sums t) from from turn (omega arith) (omega arith) (plus-start K _ (K .at sums t) from)
-        ∙ plus-end K (term K (plan .tail) a b i (j + t)) _ _ turn turn end (omega arith) (omega arith) (plus-start K _ _ turn)
+folded-eights K plan a b i j k l zeros head bent sums low high h z eh eb es =
+    record {
+      count = es .count;
+      sum = λ t q. folded-thirds K plan a b i (j + t) k (K .at zeros t) (K .at head t) l (K .at bent t) (K .at sums t) (low t q) (high t q) h (z .sum t q) (eh .sum t q) (eb .sum t q) (es .sum t q);
+    }
 
 -- ---- settled with such sums
 

@@ -4,5 +4,6 @@ pub mod Eights
 pub mod Rows
 pub mod Products
 pub mod Ready
+pub mod Upper
 pub mod Kernels
 mod Words

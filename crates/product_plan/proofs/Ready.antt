@@ -11,7 +11,6 @@ use Rattle.view.specs.declared.Side.{Side}
 use Rattle.view.specs.declared.Side.the-variants.{Left, Right}
 use Rattle.view.specs.declared.UpLo.{UpLo}
 use Rattle.view.specs.declared.UpLo.the-variants.{Upper, Lower}
-use Rattle.view.specs.Refusals.{limit}
 use Rattle.view.specs.Steps.{Accepted}
 use Rattle.view.specs.Place.{opViewOf}
 use Rattle.view.proofs.TransposeLaws.{transposed-accepted}
@@ -28,8 +27,8 @@ use Rattle.product_plan.specs.declared.plan.Plan.{Plan}
 use Rattle.product_plan.specs.declared.plan.Folded.{Folded}
 use Rattle.product_plan.specs.declared.plan.Turn.{Turn}
 use Rattle.product_plan.specs.declared.plan.Turn.the-variants.{AtRow, PastRow, AtCol, PastCol}
-use Rattle.product_plan.specs.Plan.{termsBefore, Reads, FactorsWithin, PlanReady, FoldedReads, FoldedReady, Turns, ByRow}
-use Rattle.product_plan.specs.Plans.{opFactors, leftFactors, rightFactors, rowTurn, colTurn, isUpper, leftPlan, rightPlan, gemmPlan, gemvPlan, hemvPlan, syrkPlan, herkPlan, ReadySided}
+use Rattle.product_plan.specs.Plan.{termsBefore, Reads, FactorsWithin, PlanReady, FoldedReads, FoldedReady, ByRow}
+use Rattle.product_plan.specs.Plans.{opFactors, leftFactors, rightFactors, rowTurn, colTurn, isUpper, leftPlan, rightPlan, gemmPlan, gemvPlan, hemvPlan, syrkPlan, herkPlan, leftTurn, rightTurn, ReadySided}
 
 -- ---- what the engine's steps ask
 
@@ -47,36 +46,12 @@ accepted-kept v len len' e r = subst (λ (k : ℕ). Accepted v k) (sym e) r
 pub folded-kept : (plan : Folded) (la lb lc lc' : ℕ) → lc' ≡ lc → FoldedReady plan la lb lc → FoldedReady plan la lb lc'
 folded-kept plan la lb lc lc' e r = subst (λ (k : ℕ). FoldedReady plan la lb k) (sym e) r
 
--- the first terms of element (i, j + t), where those of (i, j + 7) are inside
-pub nearer : (f : Factors) (la lb i j from end : ℕ) → FactorsWithin f la lb i (j + 7) from end → (t from′ end′ : ℕ) → t < 8 → from′ ≤ end′ → end′ ≤ end → FactorsWithin f la lb i (j + t) from′ end′
-nearer f la lb i j from end r t from′ end′ h g l =
-    record {
-      ordered = g;
-      left = λ p q. r .left p (omega arith);
-      right = λ p q. let w = r .right p (omega arith) in record { fits = w .fits; row = w .row; col = omega (arith, w .col) };
-    }
+-- the terms before an upper triangle's turn
+pub left-room : (plan : Folded) (la lb i j : ℕ) → FoldedReads plan la lb → plan .turn ≡ leftTurn → i < plan .target .rows → j < plan .target .cols → i ≤ plan .terms
+left-room plan la lb i j r e h g = subst (λ t. termsBefore t i j ≤ plan .terms) e (r .turns i j h g)
 
--- an element further on turns no earlier
-turn-later : (turn : Turn) (i j k : ℕ) → j ≤ k → termsBefore turn i j ≤ termsBefore turn i k
-turn-later AtRow i j k h = omega arith
-turn-later PastRow i j k h = omega arith
-turn-later AtCol i j k h = omega arith
-turn-later PastCol i j k h = omega arith
-
--- eight elements of a folded plan turn between the first one's turn and the last one's
-module _ (plan : Folded) (la lb i j : ℕ) (r : FoldedReads plan la lb) (h : i < plan .target .rows) (g : j + 8 ≤ plan .target .cols) (n : plan .target .cols ≤ limit) where
-  pub eight-turns : (k l : ℕ) → k ≡ termsBefore (plan .turn) i j → l ≡ termsBefore (plan .turn) i (j + 7) → Turns plan la lb i j k l
-  eight-turns k l ek el =
-      let order = turn-later (plan .turn) i j (j + 7) (omega arith) in
-      let last = r .turns i (j + 7) h (omega arith) in
-      record {
-        head = spans _ _ _ _ _ _ (r .head) i (j + 7) k l h (omega arith) (omega arith) (omega arith);
-        tail = spans _ _ _ _ _ _ (r .tail) i (j + 7) k l h (omega arith) (omega arith) (omega arith);
-        low = λ t q. omega (arith, ek, turn-later (plan .turn) i j (j + t) (omega arith));
-        high = λ t q. omega (arith, el, turn-later (plan .turn) i (j + t) (j + 7) (omega arith));
-        room = omega arith;
-        near = omega arith;
-      }
+pub right-room : (plan : Folded) (la lb i j : ℕ) → FoldedReads plan la lb → plan .turn ≡ rightTurn → i < plan .target .rows → j < plan .target .cols → j + 1 ≤ plan .terms
+right-room plan la lb i j r e h g = subst (λ t. termsBefore t i j ≤ plan .terms) e (r .turns i j h g)
 
 -- ---- op(A) op(B)
 

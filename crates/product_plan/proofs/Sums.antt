@@ -13,7 +13,7 @@ use Rattle.blas.specs.Matrix.{sum}
 use Rattle.blas.proofs.SumLaws.{sum-next}
 use Rattle.product_plan.specs.declared.plan.Factors.{Factors}
 use Rattle.product_plan.specs.declared.plan.Folded.{Folded}
-use Rattle.slab.proofs.RunLaws.{elem-own, plus-first, plus-on, run-run}
+use Rattle.slab.proofs.RunLaws.{elem-own, plus-first, plus-on}
 use Rattle.slab.specs.Run.{elemConj, plusTerms}
 use Rattle.product_plan.specs.Plan.{term, termsBefore, foldedTerm, foldedProduct}
 
@@ -28,12 +28,6 @@ module _ (K : Kind) (f : ℕ → K .Elem) where
   plus-end x y from p end h g e =
       let q : p ≡ end = omega arith in
       subst (λ (m : ℕ). y ≡ plusTerms K x f from (m - from)) q e
-
-  pub plus-join : (x : K .Elem) (from k end : ℕ) → from ≤ k → k ≤ end → plusTerms K (plusTerms K x f from (k - from)) f k (end - k) ≡ plusTerms K x f from (end - from)
-  plus-join x from k end h g =
-      let e : k ≡ from + (k - from) = omega arith in
-      let d : (k - from) + (end - k) ≡ end - from = omega arith in
-      ap (λ (z : ℕ). plusTerms K (plusTerms K x f from (k - from)) f z (end - k)) e ∙ run-run K f x from (k - from) (end - k) ∙ ap (λ (z : ℕ). plusTerms K x f from z) d
 
   -- terms added to a sum are a longer sum
   more-sum : (from n : ℕ) → plusTerms K (sum K from f) f from n ≡ sum K (from + n) f
@@ -115,20 +109,31 @@ module _ (K : Kind) (f g : ℕ → K .Elem) (k n : ℕ) where
   abbrev both : ℕ → K .Elem
   both p = cond (ltb p k) (f p) (g p)
 
-  sum-turned : (zero′ x y : K .Elem) → k ≤ n → zero′ ≡ K .zero → x ≡ plusTerms K zero′ f 0 (k - 0) → y ≡ plusTerms K x g k (n - k) → y ≡ sum K n both
-  sum-turned zero′ x y h e ex ey =
-      let q : k + (n - k) ≡ n = omega arith in
-      ey
-      ∙ more-same K g both x k (n - k) (λ p l. ap (λ (b : Bool). cond b (f (k + p)) (g (k + p))) (sym (le-ltb (k + p) k (omega arith))))
-      ∙ ap (λ z. plusTerms K z both k (n - k)) (sum-whole K both zero′ x k e (ex ∙ more-same K f both zero′ 0 (k - 0) (λ p l. before (0 + p) (omega arith))))
-      ∙ more-sum K both k (n - k)
-      ∙ ap (λ (m : ℕ). sum K m both) q
+  -- those before `from`, from there to `end`, among which it turns, and the rest
+  sum-thirds : (from end : ℕ) (zero′ x y z : K .Elem) → from ≤ k → k ≤ end → end ≤ n → zero′ ≡ K .zero
+      → x ≡ plusTerms K zero′ f 0 (from - 0) → y ≡ plusTerms K x both from (end - from) → z ≡ plusTerms K y g end (n - end) → z ≡ sum K n both
+  sum-thirds from end zero′ x y z l r h e ex ey ez =
+      let q : from + (end - from) ≡ end = omega arith in
+      let w : end + (n - end) ≡ n = omega arith in
+      ez
+      ∙ more-same K g both y end (n - end) (λ p m. ap (λ (b : Bool). cond b (f (end + p)) (g (end + p))) (sym (le-ltb (end + p) k (omega arith))))
+      ∙ ap (λ u. plusTerms K u both end (n - end))
+      (ey ∙ ap (λ u. plusTerms K u both from (end - from)) (sum-whole K both zero′ x from e (ex ∙ more-same K f both zero′ 0 (from - 0) (λ p m. before (0 + p) (omega arith))))
+      ∙ more-sum K both from (end - from)
+      ∙ ap (λ (m : ℕ). sum K m both) q)
+      ∙ more-sum K both end (n - end)
+      ∙ ap (λ (m : ℕ). sum K m both) w
     where
       before : (p : ℕ) → p < k → f p ≡ both p
-      before p l = ap (λ (b : Bool). cond b (f p) (g p)) (sym (lt-ltb p k l))
+      before p m = ap (λ (b : Bool). cond b (f p) (g p)) (sym (lt-ltb p k m))
 
-pub folded-sum : (K : Kind) (plan : Folded) (a b : List (K .Cell)) (i j k : ℕ) (zero′ x y : K .Elem) → k ≡ termsBefore (plan .turn) i j → k ≤ plan .terms → zero′ ≡ K .zero
-    → x ≡ plusTerms K zero′ (term K (plan .head) a b i j) 0 (k - 0) → y ≡ plusTerms K x (term K (plan .tail) a b i j) k (plan .terms - k) → y ≡ foldedProduct K plan a b i j
-folded-sum K plan a b i j k zero′ x y ek h e ex ey =
-    sum-turned K (term K (plan .head) a b i j) (term K (plan .tail) a b i j) k (plan .terms) zero′ x y h e ex ey
-    ∙ ap (λ (z : ℕ). sum K (plan .terms) (λ p. cond (ltb p z) (term K (plan .head) a b i j p) (term K (plan .tail) a b i j p))) ek
+module _ (K : Kind) (plan : Folded) (a b : List (K .Cell)) (i j k : ℕ) (zero′ x : K .Elem) where
+  pub folded-thirds : (l : ℕ) (y z : K .Elem) → k ≤ termsBefore (plan .turn) i j → termsBefore (plan .turn) i j ≤ l → l ≤ plan .terms → zero′ ≡ K .zero
+      → x ≡ plusTerms K zero′ (term K (plan .head) a b i j) 0 (k - 0) → y ≡ plusTerms K x (foldedTerm K plan a b i j) k (l - k)
+      → z ≡ plusTerms K y (term K (plan .tail) a b i j) l (plan .terms - l) → z ≡ foldedProduct K plan a b i j
+  folded-thirds l y z = sum-thirds K (term K (plan .head) a b i j) (term K (plan .tail) a b i j) (termsBefore (plan .turn) i j) (plan .terms) k l zero′ x y z
+
+  -- nothing between
+  pub folded-sum : (y : K .Elem) → k ≡ termsBefore (plan .turn) i j → k ≤ plan .terms → zero′ ≡ K .zero
+      → x ≡ plusTerms K zero′ (term K (plan .head) a b i j) 0 (k - 0) → y ≡ plusTerms K x (term K (plan .tail) a b i j) k (plan .terms - k) → y ≡ foldedProduct K plan a b i j
+  folded-sum y ek h e ex ey = folded-thirds k x y (omega (arith, ek)) (omega (arith, ek)) h e ex (plus-start K (foldedTerm K plan a b i j) x k) ey

@@ -1,13 +1,13 @@
 -- The product that all seven routines are: where its factors are read, which elements it writes, and what it leaves.
-use Prim.Native.Nat.{ℕ, _+_, _-_, _≤_, _<_}
-use mathlib.Core.Bool.{false, cond}
+use Prim.Native.Nat.{ℕ, _+_, _≤_, _<_}
+use mathlib.Core.Bool.{Bool, false, cond}
 use mathlib.Core.List.{List}
 use mathlib.Core.Path.{_≡_}
 use lib.Dec.{ltb}
 use Rattle.number.specs.Kind.{Kind}
-use Rattle.view.specs.Refusals.{limit}
+use Rattle.view.specs.declared.View.{View}
 use Rattle.view.specs.Steps.{Accepted}
-use Rattle.slab.specs.Run.{elemConj, plusTerms}
+use Rattle.slab.specs.Run.{elemConj}
 use Rattle.slab.specs.Elem.{Within}
 use Rattle.slab.specs.Update as Update
 use Rattle.blas.specs.Matrix.{Matrix, sum, accumulate}
@@ -49,10 +49,12 @@ planChange K plan byBeta byAlpha a b = accumulate K byBeta byAlpha (product K pl
 abbrev pub foldedChange : (K : Kind) → Folded → (K .Elem → K .Elem) → (K .Elem → K .Elem) → List (K .Cell) → List (K .Cell) → Update.Change K
 foldedChange K plan byBeta byAlpha a b = accumulate K byBeta byAlpha (foldedProduct K plan a b)
 
--- element (i, j)'s terms from `from` to before `end`, among which it turns, added to x
-abbrev pub turnedSum : (K : Kind) → Folded → List (K .Cell) → List (K .Cell) → ℕ → ℕ → ℕ → ℕ → K .Elem → K .Elem
-turnedSum K plan a b i j from end x =
-    plusTerms K (plusTerms K x (term K (plan .head) a b i j) from (termsBefore (plan .turn) i j - from)) (term K (plan .tail) a b i j) (termsBefore (plan .turn) i j) (end - termsBefore (plan .turn) i j)
+-- a target across the plan's, unless it stands as the plan's does: its element (i, j) is the plan's (j, i)
+abbrev pub across : (K : Kind) → Bool → Matrix K → Matrix K
+across K straight m i j = m (cond straight i j) (cond straight j i)
+
+abbrev pub acrossChange : (K : Kind) → Bool → Folded → (K .Elem → K .Elem) → (K .Elem → K .Elem) → List (K .Cell) → List (K .Cell) → Update.Change K
+acrossChange K straight plan byBeta byAlpha a b = accumulate K byBeta byAlpha (across K straight (foldedProduct K plan a b))
 
 -- ---- what the engine asks of its caller: that it reads and writes inside the slabs, of la, lb and lc elements
 
@@ -80,14 +82,12 @@ pub record FoldedReady (plan : Folded) (la lb lc : ℕ) : Type 0 where
   pub target : Accepted (plan .target) lc
   pub reads : FoldedReads plan la lb
 
--- the eight elements from (i, j) on turn among the terms from `from` to before `end`, which are inside the slabs
-pub record Turns (plan : Folded) (la lb i j from end : ℕ) : Type 0 where
-  pub head : FactorsWithin (plan .head) la lb i (j + 7) from end
-  pub tail : FactorsWithin (plan .tail) la lb i (j + 7) from end
-  pub low : (t : ℕ) → t < 8 → from ≤ termsBefore (plan .turn) i (j + t)
-  pub high : (t : ℕ) → t < 8 → termsBefore (plan .turn) i (j + t) ≤ end
-  pub room : end ≤ plan .terms
-  pub near : j + 8 ≤ limit
+-- the same with a target v of its own, which stands as the plan's does or across it
+pub record AcrossReady (straight : Bool) (plan : Folded) (la lb : ℕ) (v : View) (lc : ℕ) : Type 0 where
+  pub target : Accepted v lc
+  pub reads : FoldedReads plan la lb
+  pub row : (i j : ℕ) → i < v .rows → j < v .cols → cond straight i j < plan .target .rows
+  pub col : (i j : ℕ) → i < v .rows → j < v .cols → cond straight j i < plan .target .cols
 
 -- the left operand is folded: the turn is the same in all columns of a row; no right factor is conjugated
 pub record ByRow (plan : Folded) : Type 0 where

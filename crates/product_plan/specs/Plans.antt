@@ -86,6 +86,28 @@ abbrev pub rightPlan : Bool → UpLo → View → View → ℕ → View → Fold
 rightPlan conj uplo a b n c =
     record { turn = colTurn uplo; head = rightFactors (not (isUpper uplo)) conj a b; tail = rightFactors (isUpper uplo) conj a b; terms = n; target = c }
 
+-- ---- the same with one triangle alone: A's lower triangle is the upper one of its transpose
+
+abbrev pub upperOf : UpLo → View → View
+upperOf Upper a = a
+upperOf Lower a = transposedOf a
+
+-- the turns of the plans of an upper triangle
+abbrev pub leftTurn : Turn
+leftTurn = AtRow
+
+abbrev pub rightTurn : Turn
+rightTurn = PastCol
+
+abbrev pub isLeft : Side → Bool
+isLeft Left = true
+isLeft Right = false
+
+-- on the right the transposed call, of which element (j, i) is the call's (i, j)
+abbrev pub elementPlan : Side → View → View → View → Folded
+elementPlan Left u b c = leftPlan false Upper u b (c .rows) c
+elementPlan Right u b c = leftPlan false Upper u (transposedOf b) (c .cols) (transposedOf c)
+
 abbrev pub hemvPlan : UpLo → View → View → View → Folded
 hemvPlan uplo a x y = leftPlan true uplo a (columnOf x) (a .rows) (columnOf y)
 

@@ -5,14 +5,16 @@ ghost use mathlib.Core.Bool.{true};
 ghost use Rattle.view.specs.Checks.{vectorOf};
 ghost use Rattle.blas.specs.Syrk.{syrkLeft, syrkRight};
 ghost use Rattle.blas.specs.Herk.{herkLeft, herkRight};
-ghost use Rattle.product_plan.specs.Plans.{opFactors, opPlan, turnedPlan, columnPlan, hemvPlan, leftFactors, rightFactors, isUpper, rowTurn, colTurn, leftPlan, rightPlan, syrkPlan, herkPlan};
+ghost use Rattle.product_plan.specs.Plans.{opFactors, opPlan, turnedPlan, columnPlan, hemvPlan, leftFactors, rightFactors, isUpper, rowTurn, colTurn, leftPlan, rightPlan, upperOf, isLeft, elementPlan, syrkPlan, herkPlan};
 use crate::plan::Factors;
 use crate::plan::Folded;
 use crate::plan::Plan;
 use crate::plan::Turn;
+use view::Side;
 use view::Trans;
 use view::UpLo;
 use view::View;
+use view::cols;
 use view::column;
 use view::conjugates;
 use view::op_cols;
@@ -175,6 +177,35 @@ pub fn right_plan(conj: bool, uplo: UpLo, a: View, b: View, terms: usize, c: Vie
         tail,
         terms,
         target: c,
+    }
+}
+
+// The view whose upper triangle is A's named one: A's own, or its transpose.
+pub fn upper_view(uplo: UpLo, a: View) -> View
+    ensures { λ r. ⌜ r ≡ upperOf uplo a ⌝ }
+{
+    match uplo {
+        UpLo::Upper => a,
+        UpLo::Lower => transposed(a),
+    }
+}
+
+pub fn is_left(side: Side) -> bool
+    ensures { λ r. ⌜ r ≡ isLeft side ⌝ }
+{
+    match side {
+        Side::Left => true,
+        Side::Right => false,
+    }
+}
+
+// A on the left of B, its upper triangle read in u; on the right, the transposed call, of which element (j, i) is the call's (i, j).
+pub fn element_plan(side: Side, u: View, b: View, c: View) -> Folded
+    ensures { λ r. ⌜ r ≡ elementPlan side u b c ⌝ }
+{
+    match side {
+        Side::Left => left_plan(false, UpLo::Upper, u, b, rows(c), c),
+        Side::Right => left_plan(false, UpLo::Upper, u, transposed(b), cols(c), transposed(c)),
     }
 }
 

@@ -8,19 +8,18 @@ ghost use Rattle.slab.specs.Elem.{lent};
 ghost use Rattle.slab.specs.Update.{everywhere, updateRow, update};
 ghost use Rattle.blas.specs.Outcome.{Gives};
 ghost use Rattle.blas.specs.Symm;
+ghost use Rattle.product_plan.specs.Plan.{acrossChange, AcrossReady};
 ghost use Rattle.product_plan.specs.Plans.{ReadySided, sidedWork};
-ghost use Rattle.product_plan.specs.Plan.{term, foldedChange, FoldedReady, ByRow};
-use crate::folded::run_folded;
-use crate::folded::run_folded_wide;
-use crate::folded::small_entry;
+use crate::folded::across_entry;
 use crate::kind::Beta;
 use crate::kind::Cell;
 use crate::kind::Number;
+use crate::wide::run_wide;
 use call_check::check_symm;
 use product_plan::Folded;
-use product_plan::left_plan;
-use product_plan::right_plan;
-use product_plan::turn_at;
+use product_plan::element_plan;
+use product_plan::is_left;
+use product_plan::upper_view;
 use quick_check::quick_symm;
 use view::Answer;
 use view::Side;
@@ -30,157 +29,48 @@ use view::cols;
 use view::passed;
 use view::rows;
 
-// Row i of symm with A on the left.
-fn symm_left_row(
+// Row i of the target, element by element.
+fn symm_row(
+    straight: bool,
     plan: Folded,
     a: &[Cell],
     b: &[Cell],
     alpha: Number,
     beta: Beta,
     c: &mut [Cell],
+    vc: View,
     i: usize,
 )
-    requires { ⌜ FoldedReady plan (K .count (now a)) (K .count (now b)) (K .count (now c)) × ByRow plan × (i < plan .target .rows) ⌝ }
-    ensures { λ _. ⌜ now (c .exit) ≡ updateRow K (plan .target) everywhere (foldedChange K plan (scaleBy beta) (K .mul (value alpha)) (now (a .entry)) (now (b .entry))) i (plan .target .cols) (now (c .entry)) ⌝ }
+    requires { ⌜ AcrossReady straight plan (K .count (now a)) (K .count (now b)) vc (K .count (now c)) × (i < vc .rows) ⌝ }
+    ensures { λ _. ⌜ now (c .exit) ≡ updateRow K vc everywhere (acrossChange K straight plan (scaleBy beta) (K .mul (value alpha)) (now (a .entry)) (now (b .entry))) i (vc .cols) (now (c .entry)) ⌝ }
 {
-    let turn = plan.turn;
-    let k = turn_at(turn, i, 0, plan.terms);
-    let n = cols(plan.target);
+    let n = cols(vc);
     let mut j = 0;
     while j < n {
-        small_entry(plan, k, a, b, alpha, beta, c, i, j);
+        across_entry(straight, plan, a, b, alpha, beta, c, vc, i, j);
         j += 1;
     }
 }
 
-// The whole target of symm with A on the left, term by term.
-fn symm_left_small(plan: Folded, a: &[Cell], b: &[Cell], alpha: Number, beta: Beta, c: &mut [Cell])
-    requires { ⌜ FoldedReady plan (K .count (now a)) (K .count (now b)) (K .count (now c)) × ByRow plan ⌝ }
-    ensures { λ _. ⌜ now (c .exit) ≡ update K (plan .target) everywhere (foldedChange K plan (scaleBy beta) (K .mul (value alpha)) (now (a .entry)) (now (b .entry))) (now (c .entry)) ⌝ }
-{
-    let m = rows(plan.target);
-    let mut i = 0;
-    while i < m {
-        symm_left_row(plan, a, b, alpha, beta, c, i);
-        i += 1;
-    }
-}
-
-// symm with A on the left.
-fn symm_left(
-    uplo: UpLo,
-    alpha: Number,
-    a: &[Cell],
-    va: View,
-    b: &[Cell],
-    vb: View,
-    beta: Beta,
-    c: &mut [Cell],
-    vc: View,
-)
-    requires { ⌜ ReadySided Side.Left false uplo va (K .count (now a)) vb (K .count (now b)) vc (K .count (now c)) ⌝ }
-    ensures { λ _. ⌜ now (c .exit) ≡ sidedWork K Side.Left false uplo va vb vc (scaleBy beta) (K .mul (value alpha)) (now (a .entry)) (now (b .entry)) (now (c .entry)) ⌝ }
-{
-    if 8 <= cols(vc) {
-        run_folded_wide(
-            left_plan(false, uplo, va, vb, rows(vc), vc),
-            a,
-            b,
-            alpha,
-            beta,
-            c,
-        );
-    } else if 8 <= rows(vc) {
-        run_folded(
-            left_plan(false, uplo, va, vb, rows(vc), vc),
-            a,
-            b,
-            alpha,
-            beta,
-            c,
-        );
-    } else {
-        symm_left_small(
-            left_plan(false, uplo, va, vb, rows(vc), vc),
-            a,
-            b,
-            alpha,
-            beta,
-            c,
-        );
-    }
-}
-
-// Row i of symm with A on the right.
-fn symm_right_row(
+// The whole target, element by element.
+fn symm_elements(
+    straight: bool,
     plan: Folded,
     a: &[Cell],
     b: &[Cell],
     alpha: Number,
     beta: Beta,
     c: &mut [Cell],
-    i: usize,
-)
-    requires { ⌜ FoldedReady plan (K .count (now a)) (K .count (now b)) (K .count (now c)) × (i < plan .target .rows) ⌝ }
-    ensures { λ _. ⌜ now (c .exit) ≡ updateRow K (plan .target) everywhere (foldedChange K plan (scaleBy beta) (K .mul (value alpha)) (now (a .entry)) (now (b .entry))) i (plan .target .cols) (now (c .entry)) ⌝ }
-{
-    let turn = plan.turn;
-    let m = plan.terms;
-    let n = cols(plan.target);
-    let mut j = 0;
-    while j < n {
-        let k = turn_at(turn, i, j, m);
-        small_entry(plan, k, a, b, alpha, beta, c, i, j);
-        j += 1;
-    }
-}
-
-// The whole target of symm with A on the right, term by term.
-fn symm_right_small(plan: Folded, a: &[Cell], b: &[Cell], alpha: Number, beta: Beta, c: &mut [Cell])
-    requires { ⌜ FoldedReady plan (K .count (now a)) (K .count (now b)) (K .count (now c)) ⌝ }
-    ensures { λ _. ⌜ now (c .exit) ≡ update K (plan .target) everywhere (foldedChange K plan (scaleBy beta) (K .mul (value alpha)) (now (a .entry)) (now (b .entry))) (now (c .entry)) ⌝ }
-{
-    let m = rows(plan.target);
-    let mut i = 0;
-    while i < m {
-        symm_right_row(plan, a, b, alpha, beta, c, i);
-        i += 1;
-    }
-}
-
-// symm with A on the right.
-fn symm_right(
-    uplo: UpLo,
-    alpha: Number,
-    a: &[Cell],
-    va: View,
-    b: &[Cell],
-    vb: View,
-    beta: Beta,
-    c: &mut [Cell],
     vc: View,
 )
-    requires { ⌜ ReadySided Side.Right false uplo va (K .count (now a)) vb (K .count (now b)) vc (K .count (now c)) ⌝ }
-    ensures { λ _. ⌜ now (c .exit) ≡ sidedWork K Side.Right false uplo va vb vc (scaleBy beta) (K .mul (value alpha)) (now (a .entry)) (now (b .entry)) (now (c .entry)) ⌝ }
+    requires { ⌜ AcrossReady straight plan (K .count (now a)) (K .count (now b)) vc (K .count (now c)) ⌝ }
+    ensures { λ _. ⌜ now (c .exit) ≡ update K vc everywhere (acrossChange K straight plan (scaleBy beta) (K .mul (value alpha)) (now (a .entry)) (now (b .entry))) (now (c .entry)) ⌝ }
 {
-    if 8 <= cols(vc) {
-        run_folded_wide(
-            right_plan(false, uplo, va, vb, cols(vc), vc),
-            b,
-            a,
-            alpha,
-            beta,
-            c,
-        );
-    } else {
-        symm_right_small(
-            right_plan(false, uplo, va, vb, cols(vc), vc),
-            b,
-            a,
-            alpha,
-            beta,
-            c,
-        );
+    let m = rows(vc);
+    let mut i = 0;
+    while i < m {
+        symm_row(straight, plan, a, b, alpha, beta, c, vc, i);
+        i += 1;
     }
 }
 
@@ -200,9 +90,12 @@ fn symm_sided(
     requires { ⌜ ReadySided side false uplo va (K .count (now a)) vb (K .count (now b)) vc (K .count (now c)) ⌝ }
     ensures { λ _. ⌜ now (c .exit) ≡ sidedWork K side false uplo va vb vc (scaleBy beta) (K .mul (value alpha)) (now (a .entry)) (now (b .entry)) (now (c .entry)) ⌝ }
 {
-    match side {
-        Side::Left => symm_left(uplo, alpha, a, va, b, vb, beta, c, vc),
-        Side::Right => symm_right(uplo, alpha, a, va, b, vb, beta, c, vc),
+    let u = upper_view(uplo, va);
+    if 8 <= cols(vc) {
+        run_wide(side, alpha, a, u, b, vb, beta, c, vc);
+    } else {
+        let plan = element_plan(side, u, vb, vc);
+        symm_elements(is_left(side), plan, a, b, alpha, beta, c, vc);
     }
 }
 
