@@ -1,23 +1,28 @@
 // The check of each routine: the answer that the refusals 1 to 4 give, or Done. Arguments in the Rust's order, each view with
 // the length of its slab in elements; flags that no shape rule looks at are left out. Each takes what the quick test of the call
 // answered: a call that passed it is done.
+
+mod bounds;
+pub mod quick;
+mod shapes;
+mod sharing;
+
 ghost use mathlib.Core.Path.{_≡_};
 ghost use mathlib.Core.Bool.{_||_, true, false};
 ghost use mathlib.Core.List.{[], _∷_};
 ghost use Rattle.view.specs.Judge.{answerNumber, answerOf, arg, judge, lowestOf};
 ghost use Rattle.view.specs.Place.{viewOf, opViewOf};
 ghost use Rattle.view.specs.Checks as specs;
-ghost use Rattle.quick_check.specs.Quick.{quickGemv, quickHemv, quickHer, quickHer2, quickTrmv, quickGemm, quickSymm, quickSyrk, quickSyr2k, quickTrmm};
+ghost use Rattle.call_check.specs.Quick.{quickGemv, quickHemv, quickHer, quickHer2, quickTrmv, quickGemm, quickSymm, quickSyrk, quickSyr2k, quickTrmm};
+use crate::bounds::out_of_bounds;
+use crate::bounds::too_large;
+use crate::sharing::overlap;
 use view::Answer;
 use view::Side;
 use view::Trans;
 use view::View;
 use view::number;
 use view::view_of;
-use view_check::out_of_bounds;
-use view_check::overlap;
-use view_check::shapes;
-use view_check::too_large;
 
 // Whether one of three tests passed.
 fn one_of(p: bool, q: bool, r: bool) -> bool

@@ -17,7 +17,7 @@ use crate::pairs::pair_sum;
 use crate::pairs::settle;
 use crate::target::syr2k_target;
 use call_check::check_syr2k;
-use quick_check::quick_syr2k;
+use call_check::quick::quick_syr2k;
 use rank_plan::Plan;
 use rank_plan::syr2k_plan;
 use view::Answer;

@@ -17,7 +17,7 @@ use crate::kind::elem;
 use crate::kind::get;
 use crate::kind::put;
 use call_check::check_her;
-use quick_check::quick_her;
+use call_check::quick::quick_her;
 use view::Answer;
 use view::UpLo;
 use view::View;

@@ -16,7 +16,7 @@ use crate::kind::elem;
 use crate::kind::get;
 use crate::kind::put;
 use call_check::check_her2;
-use quick_check::quick_her2;
+use call_check::quick::quick_her2;
 use view::Answer;
 use view::UpLo;
 use view::View;

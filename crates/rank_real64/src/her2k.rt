@@ -18,7 +18,7 @@ use crate::pairs::settle;
 use crate::pairs::weighed_sum;
 use crate::target::her2k_target;
 use call_check::check_her2k;
-use quick_check::quick_syr2k;
+use call_check::quick::quick_syr2k;
 use rank_plan::Plan;
 use rank_plan::her2k_plan;
 use view::Answer;

@@ -1,4 +1,5 @@
 // Replays a call of product_real64.
+use number::Real64;
 use recorded_calls::real64::agree;
 use recorded_calls::real64::alpha;
 use recorded_calls::real64::beta;
@@ -15,9 +16,9 @@ use view::number;
 
 // Whether the call gives the record's answer and the target's slab after the call, and leaves the others.
 pub fn agrees(body: &[u8]) -> bool {
-    let mut s = [0.0; 144];
-    let mut t = [0.0; 144];
-    let mut u = [0.0; 144];
+    let mut s = [Real64::ZERO.0; 144];
+    let mut t = [Real64::ZERO.0; 144];
+    let mut u = [Real64::ZERO.0; 144];
     let a = slab(body, 0, &mut s);
     let b = slab(body, 1, &mut t);
     let c = slab(body, target(body), &mut u);

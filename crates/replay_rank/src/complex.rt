@@ -1,4 +1,5 @@
 // Replays a call of rank_complex.
+use number::Complex;
 use recorded_calls::complex::agree;
 use recorded_calls::complex::alpha;
 use recorded_calls::complex::beta;
@@ -14,9 +15,9 @@ use view::number;
 
 // Whether the call gives the record's answer and the target's slab after the call, and leaves the others.
 pub fn agrees(body: &[u8]) -> bool {
-    let mut s = [0.0; 144];
-    let mut t = [0.0; 144];
-    let mut u = [0.0; 144];
+    let mut s = [Complex::ZERO.re; 144];
+    let mut t = [Complex::ZERO.re; 144];
+    let mut u = [Complex::ZERO.re; 144];
     let a = slab(body, 0, &mut s);
     let b = slab(body, 1, &mut t);
     let c = slab(body, target(body), &mut u);

@@ -1,4 +1,5 @@
 // Replays a call of triangle_real32.
+use number::Real32;
 use recorded_calls::real32::agree;
 use recorded_calls::real32::alpha;
 use recorded_calls::real32::slab;
@@ -11,8 +12,8 @@ use view::number;
 
 // Whether the call gives the record's answer and the target's slab after the call, and leaves the other.
 pub fn agrees(body: &[u8]) -> bool {
-    let mut s = [0.0; 144];
-    let mut t = [0.0; 144];
+    let mut s = [Real32::ZERO.0; 144];
+    let mut t = [Real32::ZERO.0; 144];
     let a = slab(body, 0, &mut s);
     let b = slab(body, 1, &mut t);
     let answer = call(body, a, b);

@@ -8,7 +8,7 @@ use crate::kind::Cell;
 use crate::kind::Number;
 use crate::line::multiply;
 use call_check::check_trmm;
-use quick_check::quick_trmm;
+use call_check::quick::quick_trmm;
 use view::Answer;
 use view::Diag;
 use view::Side;

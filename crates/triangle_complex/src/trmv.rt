@@ -8,7 +8,7 @@ use crate::kind::Cell;
 use crate::kind::Number;
 use crate::line::multiply;
 use call_check::check_trmv;
-use quick_check::quick_trmv;
+use call_check::quick::quick_trmv;
 use view::Answer;
 use view::Diag;
 use view::Side;

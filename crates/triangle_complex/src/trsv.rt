@@ -12,7 +12,7 @@ use crate::kind::Number;
 use crate::unknown::meets_zero;
 use crate::unknown::solve_one;
 use call_check::check_trsv;
-use quick_check::quick_trmv;
+use call_check::quick::quick_trmv;
 use triangle_plan::System;
 use triangle_plan::solved;
 use triangle_plan::system_of;

@@ -22,7 +22,7 @@ use crate::kind::zeros;
 use crate::line::line_sum;
 use crate::line::own_weight;
 use call_check::check_trmm;
-use quick_check::quick_trmm;
+use call_check::quick::quick_trmm;
 use slab::block_start;
 use triangle_plan::System;
 use triangle_plan::in_order;

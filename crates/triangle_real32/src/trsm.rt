@@ -21,7 +21,7 @@ use crate::unknown::first_zero;
 use crate::unknown::solve_one;
 use crate::unknowns::solve_wide;
 use call_check::check_trsm;
-use quick_check::quick_trmm;
+use call_check::quick::quick_trmm;
 use triangle_plan::System;
 use triangle_plan::is_left;
 use triangle_plan::lines_solved;

@@ -22,7 +22,7 @@ use crate::line::line_sum;
 use crate::line::own_first;
 use crate::line::own_last;
 use call_check::check_trmv;
-use quick_check::quick_trmv;
+use call_check::quick::quick_trmv;
 use slab::block_start;
 use triangle_plan::System;
 use triangle_plan::eight_from;

@@ -4,4 +4,4 @@ use Rattle.call_check.proofs.check_her.Statement.{statement}
 use Rattle.call_check.proofs.check_her.Tie as tie
 
 pub check-her-spec : {M : Type 1} → statement M
-check-her-spec = tie.close (tie.spec (search needs) (search needs) (λ c. sym (quick-her-passes _ _ _ _ (sym (c .before .pre) ∙ c .if1 .taken))) (λ c. cc))
+check-her-spec = tie.close (tie.spec (search needs) (search needs) (λ c. sym (quick-her-passes _ _ _ _ (sym (c .before .pre) ∙ c .if1 .taken))) (λ c. rw (← (c .before .trmv .ensures)) (c .judge2 .ensures)))

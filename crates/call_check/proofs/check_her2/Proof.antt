@@ -4,4 +4,4 @@ use Rattle.call_check.proofs.check_her2.Statement.{statement}
 use Rattle.call_check.proofs.check_her2.Tie as tie
 
 pub check-her2-spec : {M : Type 1} → statement M
-check-her2-spec = tie.close (tie.spec (search needs) (search needs) (λ c. sym (quick-her2-passes _ _ _ _ _ _ (sym (c .before .pre) ∙ c .if1 .taken))) (λ c. cc))
+check-her2-spec = tie.close (tie.spec (search needs) (search needs) (λ c. sym (quick-her2-passes _ _ _ _ _ _ (sym (c .before .pre) ∙ c .if1 .taken))) (λ c. rw (← (c .before .hemv .ensures)) (c .judge3 .ensures)))

@@ -4,4 +4,4 @@ use Rattle.call_check.proofs.check_symm.Statement.{statement}
 use Rattle.call_check.proofs.check_symm.Tie as tie
 
 pub check-symm-spec : {M : Type 1} → statement M
-check-symm-spec = tie.close (tie.spec (search needs) (search needs) (λ c. sym (quick-symm-passes _ _ _ _ _ _ _ (sym (c .before .pre) ∙ c .if1 .taken))) (λ c. cc))
+check-symm-spec = tie.close (tie.spec (search needs) (search needs) (λ c. sym (quick-symm-passes _ _ _ _ _ _ _ (sym (c .before .pre) ∙ c .if1 .taken))) (λ c. rw (← (c .before .symm .ensures)) (c .judge3 .ensures)))

@@ -4,4 +4,4 @@ use Rattle.call_check.proofs.check_syrk.Statement.{statement}
 use Rattle.call_check.proofs.check_syrk.Tie as tie
 
 pub check-syrk-spec : {M : Type 1} → statement M
-check-syrk-spec = tie.close (tie.spec (search needs) (search needs) (λ c. sym (quick-syrk-passes _ _ _ _ _ (sym (c .before .pre) ∙ c .if1 .taken))) (λ c. cc))
+check-syrk-spec = tie.close (tie.spec (search needs) (search needs) (λ c. sym (quick-syrk-passes _ _ _ _ _ (sym (c .before .pre) ∙ c .if1 .taken))) (λ c. rw (← (c .before .syrk .ensures)) (c .judge2 .ensures)))

@@ -4,4 +4,4 @@ use Rattle.call_check.proofs.check_trmv.Statement.{statement}
 use Rattle.call_check.proofs.check_trmv.Tie as tie
 
 pub check-trmv-spec : {M : Type 1} → statement M
-check-trmv-spec = tie.close (tie.spec (search needs) (search needs) (λ c. sym (quick-trmv-passes _ _ _ _ (sym (c .before .pre) ∙ c .if1 .taken))) (λ c. cc))
+check-trmv-spec = tie.close (tie.spec (search needs) (search needs) (λ c. sym (quick-trmv-passes _ _ _ _ (sym (c .before .pre) ∙ c .if1 .taken))) (λ c. rw (← (c .before .trmv .ensures)) (c .judge2 .ensures)))

@@ -11,6 +11,6 @@ row-spec = tie.close (tie.spec
     Inv-loop (λ plan a b alpha beta c₀ i n j₀ c j. n - j) (λ c κs. tt) (λ c. (omega arith, refl, row-begun _ _ _ _ _ _))
     (λ c κs. (ready-kept _ _ _ _ _ (ap (λ (k : ℕ). k / 2) (c .before .before .loop .inv .1)) (c .before .before .before .before .before .before .before .pre .0), search needs, search needs))
     (λ c. omega arith) (λ c. omega arith)
-    (λ c. (omega arith, cc, search (put-next K)))
+    (λ c. (omega arith, omega arith, search (put-next K)))
     (λ c. search needs)
     (λ c. search (row-last K)))

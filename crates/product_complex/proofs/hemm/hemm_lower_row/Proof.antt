@@ -15,5 +15,5 @@ turned-entry-requires c κs = (folded-kept _ _ _ _ _ (ap (λ (k : ℕ). k / 2) (
 pub hemm-lower-row-spec : {M : Type 1} → statement M
 hemm-lower-row-spec = tie.close (tie.spec
     Inv-loop μ-loop (λ c κs. c .before .before .before .pre .1 .room _ (c .before .before .before .pre .2)) (λ c κs. tt)
-    (λ c. (omega arith, refl, row-begun _ _ _ _ _ _)) turned-entry-requires (λ c. omega arith) (λ c. omega arith) (λ c. (omega arith, cc, search (put-next K)))
+    (λ c. (omega arith, refl, row-begun _ _ _ _ _ _)) turned-entry-requires (λ c. omega arith) (λ c. omega arith) (λ c. (omega arith, omega arith, search (put-next K)))
     (λ c. search needs) (λ c. search (row-last K)))

@@ -4,4 +4,4 @@ use Rattle.product_plan.proofs.routines.left_factors.Statement.{stateme
 use Rattle.product_plan.proofs.routines.left_factors.Tie as tie
 
 pub left-factors-spec : {M : Type 1} → statement M
-left-factors-spec = tie.close (tie.spec (λ c κs. search needs) (λ c. rw (c .before .if1 .taken) (cc)) (λ c. rw (c .if1 .left)))
+left-factors-spec = tie.close (tie.spec (λ c κs. search needs) (λ c. rw (c .before .if1 .taken, c .transposed .ensures)) (λ c. rw (c .if1 .left)))

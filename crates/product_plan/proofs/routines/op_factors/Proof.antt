@@ -4,4 +4,4 @@ use Rattle.product_plan.proofs.routines.op_factors.Statement.{statement
 use Rattle.product_plan.proofs.routines.op_factors.Tie as tie
 
 pub op-factors-spec : {M : Type 1} → statement M
-op-factors-spec = tie.close (tie.spec (λ c κs. search needs) (λ c κs. search needs) (λ c κs. search needs) (λ c κs. search needs) (λ c. cc))
+op-factors-spec = tie.close (tie.spec (λ c κs. search needs) (λ c κs. search needs) (λ c κs. search needs) (λ c κs. search needs) (λ c. rw (c .conjugates2 .ensures, c .before .op-view2 .ensures, c .before .before .conjugates .ensures, c .before .before .before .op-view .ensures)))

@@ -4,4 +4,4 @@ use Rattle.product_plan.proofs.routines.op_plan.Statement.{statement}
 use Rattle.product_plan.proofs.routines.op_plan.Tie as tie
 
 pub op-plan-spec : {M : Type 1} → statement M
-op-plan-spec = tie.close (tie.spec (λ c κs. search needs) (λ c. cc))
+op-plan-spec = tie.close (tie.spec (λ c κs. search needs) (λ c. rw (c .op-factors .ensures)))

@@ -4,4 +4,4 @@ use Rattle.product_plan.proofs.routines.right_factors.Statement.{statem
 use Rattle.product_plan.proofs.routines.right_factors.Tie as tie
 
 pub right-factors-spec : {M : Type 1} → statement M
-right-factors-spec = tie.close (tie.spec (λ c κs. search needs) (λ c. rw (c .before .if1 .taken) (cc)) (λ c. rw (c .if1 .left)))
+right-factors-spec = tie.close (tie.spec (λ c κs. search needs) (λ c. rw (c .before .if1 .taken, c .transposed .ensures)) (λ c. rw (c .if1 .left)))

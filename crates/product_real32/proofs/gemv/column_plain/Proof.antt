@@ -11,6 +11,6 @@ column-plain-spec = tie.close (tie.spec
     Inv-loop (λ plan a b alpha beta c₀ m i₀ c i. m - i) (λ c κs. tt) (λ c. (omega arith, refl, rows-begun _ _ _ _ _))
     (λ c κs. (search ready-kept, search needs, search needs))
     (λ c. omega arith) (λ c. omega arith)
-    (λ c. (omega arith, cc, search (column-next K)))
+    (λ c. (omega arith, omega arith, search (column-next K)))
     (λ c. search needs)
     (λ c. search (rows-last K)))

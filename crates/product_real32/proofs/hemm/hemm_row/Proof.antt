@@ -11,6 +11,6 @@ hemm-row-spec = tie.close (tie.spec
     Inv-loop (λ straight plan a b alpha beta c₀ vc i n j₀ c j. n - j) (λ c κs. tt) (λ c. (omega arith, refl, row-begun _ _ _ _ _ _))
     (λ c κs. (search across-kept, search needs, search needs))
     (λ c. omega arith) (λ c. omega arith)
-    (λ c. (omega arith, cc, search (put-next K)))
+    (λ c. (omega arith, omega arith, search (put-next K)))
     (λ c. search needs)
     (λ c. search (row-last K)))

@@ -21,4 +21,4 @@ returns c = span-last K _ _ _ _ _ _ _ (row-columns (c .before .before .before .b
 pub syrk-row-spec : {M : Type 1} → statement M
 syrk-row-spec = tie.close (tie.spec
     Inv-loop μ-loop (λ c κs. tt) (λ c κs. search needs) (λ c κs. tt) loop-holds entry-requires (λ c. omega arith) (λ c. omega arith)
-    (λ c. (omega arith, omega arith, cc, search (span-next K))) (λ c. search needs) returns)
+    (λ c. (omega arith, omega arith, omega arith, search (span-next K))) (λ c. search needs) returns)

@@ -13,5 +13,5 @@ settle-block-spec = tie.close (tie.spec
     (λ c. search needs)
     (λ c κs. let r = c .before .before .before .before .pre in record { fits = accepted-kept _ _ _ (c .before .before .loop .inv .2) (r .0); row = r .1; col = omega (arith, r .2 .ends, r .2 .within) })
     (λ c. omega arith) (λ c. omega arith)
-    (λ c. (omega arith, omega arith, cc, search (span-next K)))
+    (λ c. (omega arith, omega arith, omega arith, search (span-next K)))
     (λ c. search needs) (λ c. search (span-end K)))

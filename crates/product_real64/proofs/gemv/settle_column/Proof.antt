@@ -14,6 +14,6 @@ settle-column-spec = tie.close (tie.spec
     (λ c. omega (arith, c .before .before .before .before .pre .2 .begins))
     (λ c κs. let r = c .before .before .before .before .pre in record { fits = accepted-kept _ _ _ (c .before .before .loop .inv .2) (r .0); row = omega (arith, r .2 .within); col = omega (arith, r .1) })
     (λ c. omega arith) (λ c. omega arith)
-    (λ c. (omega arith, omega arith, cc, search (rows-span-next K)))
+    (λ c. (omega arith, omega arith, omega arith, search (rows-span-next K)))
     (λ c. search needs)
     (λ c. search (rows-span-end K)))

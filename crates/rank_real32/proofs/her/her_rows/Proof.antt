@@ -11,6 +11,6 @@ her-rows-spec = tie.close (tie.spec
     Inv-loop (λ uplo alpha x vx a₀ va m i₀ a i. m - i) (λ c κs. tt) (λ c. (omega arith, refl, rows-begun _ _ _ _ _))
     (λ c κs. (search (one-kept, counted), search needs))
     (λ c. omega arith) (λ c. omega arith)
-    (λ c. (omega arith, cc, search (rows-next K)))
+    (λ c. (omega arith, omega arith, search (rows-next K)))
     (λ c. search needs)
     (λ c. search (rows-last K)))

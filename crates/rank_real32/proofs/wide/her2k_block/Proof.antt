@@ -23,4 +23,4 @@ pub her2k-block-spec : {M : Type 1} → statement M
 her2k-block-spec = tie.close (tie.spec
     Inv-loop μ-loop (λ c κs. search block-sums) (λ c. (omega arith, search needs, refl, span-start K _ _ _ _ _)) (λ c. search needs) (λ c. search needs)
     (λ c. omega (arith, c .before .before .before .before .before .before .pre .block .begins, c .before .before .before .before .before .before .pre .block .ends))
-    (λ c κs. search block-shows) (λ c. omega arith) (λ c. omega arith) (λ c. (omega arith, omega arith, cc, search (span-next K))) (λ c. search needs) returns)
+    (λ c κs. search block-shows) (λ c. omega arith) (λ c. omega arith) (λ c. (omega arith, omega arith, omega arith, search (span-next K))) (λ c. search needs) returns)

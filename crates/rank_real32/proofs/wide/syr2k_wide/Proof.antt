@@ -11,6 +11,6 @@ syr2k-wide-spec = tie.close (tie.spec
     Inv-loop (λ alpha beta plan a b c₀ m i₀ c i. m - i) (λ c κs. tt) (λ c. (omega arith, refl, rows-begun _ _ _ _ _))
     (λ c κs. (search paired-kept, search needs, search needs))
     (λ c. omega arith) (λ c. omega arith)
-    (λ c. (omega arith, cc, search (rows-next K)))
+    (λ c. (omega arith, omega arith, search (rows-next K)))
     (λ c. search needs)
     (λ c. search (rows-last K)))

@@ -43,5 +43,5 @@ pub her-row-spec : {M : Type 1} → statement M
 her-row-spec = tie.close (tie.spec
     Inv-loop μ-loop (λ c κs. search column-shows) (λ c κs. tt) (λ c κs. tt)
     (λ c κs. let s = c .before .before .before .before .before in row-lt _ _ (s .pre .0 .target) _ (s .pre .1) _ (c .rows .ensures ∙ sym (s .pre .0 .target .cols)))
-    (λ c κs. tt) loop-holds her-entry-requires (λ c. omega arith) (λ c. omega arith) (λ c. (omega arith, omega arith, cc, search (span-next K)))
+    (λ c κs. tt) loop-holds her-entry-requires (λ c. omega arith) (λ c. omega arith) (λ c. (omega arith, omega arith, omega arith, search (span-next K)))
     (λ c. search needs) returns)

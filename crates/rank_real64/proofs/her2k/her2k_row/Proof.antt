@@ -18,4 +18,4 @@ returns c = let p = c .before .before .before .before .before .before .before .b
 pub her2k-row-spec : {M : Type 1} → statement M
 her2k-row-spec = tie.close (tie.spec
     Inv-loop μ-loop (λ c κs. tt) (λ c κs. search row-lt) (λ c κs. tt) (λ c. (omega arith, search begins, refl, search (span-start K))) her2k-entry-requires
-    (λ c. omega arith) (λ c. omega arith) (λ c. (omega arith, omega arith, cc, search (span-next K))) (λ c. search needs) returns)
+    (λ c. omega arith) (λ c. omega arith) (λ c. (omega arith, omega arith, omega arith, search (span-next K))) (λ c. search needs) returns)

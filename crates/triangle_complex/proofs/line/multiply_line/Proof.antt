@@ -12,6 +12,6 @@ multiply-line-spec = tie.close (tie.spec
     (λ c κs. let p = c .before .before .before .before .before .before .pre in
     ready-for _ _ _ _ _ _ _ _ (p .0) (ap (λ (n : ℕ). n / 2) (c .before .before .loop .inv .1)) (c .before .before .before .rows .ensures) refl (omega arith) (p .1))
     (λ c. omega arith) (λ c. omega arith)
-    (λ c. (omega arith, cc, search walk-next))
+    (λ c. (omega arith, omega arith, search walk-next))
     (λ c. search needs)
     (λ c. walk-end _ _ _ _ _ (omega (arith, c .before .before .rows .ensures, c .before .loop .inv .0)) (omega (arith, c .before .before .rows .ensures)) (c .before .loop .inv .2)))

@@ -15,4 +15,4 @@ scale-one-requires c κs = in-row _ _ _ _ _ _ (c .before .before .before .before
 pub scale-row-spec : {M : Type 1} → statement M
 scale-row-spec = tie.close (tie.spec
     Inv-loop μ-loop (λ c κs. search needs) (λ c. (omega arith, refl, row-begun _ _ _ _ _ _)) scale-one-requires (λ c. omega arith) (λ c. omega arith)
-    (λ c. (omega arith, cc, search (row-next K))) (λ c. search needs) (λ c. search (row-last K)))
+    (λ c. (omega arith, omega arith, search (row-next K))) (λ c. search needs) (λ c. search (row-last K)))

@@ -11,6 +11,6 @@ multiply-line-spec = tie.close (tie.spec
     Inv-loop (λ sys alpha a b₀ l m k₀ b k. m - k) (λ c κs. tt) (λ c. (omega arith, refl, walk-start _ _))
     (λ c κs. search ready-for)
     (λ c. omega arith) (λ c. omega arith)
-    (λ c. (omega arith, cc, search walk-next))
+    (λ c. (omega arith, omega arith, search walk-next))
     (λ c. search needs)
     (λ c. walk-end _ _ _ _ _ (omega (arith, c .before .before .rows .ensures, c .before .loop .inv .0)) (omega (arith, c .before .before .rows .ensures)) (c .before .loop .inv .2)))

@@ -11,6 +11,6 @@ multiply-lines-spec = tie.close (tie.spec
     Inv-loop (λ sys alpha a b₀ n l₀ b l. n - l) (λ c κs. tt) (λ c. (omega arith, refl, walk-start _ _))
     (λ c κs. (search ready-kept, search needs))
     (λ c. omega arith) (λ c. omega arith)
-    (λ c. (omega arith, cc, search walk-next))
+    (λ c. (omega arith, omega arith, search walk-next))
     (λ c. search needs)
     (λ c. walk-end _ _ _ _ _ (omega (arith, c .before .before .cols .ensures, c .before .loop .inv .0)) (omega (arith, c .before .before .cols .ensures)) (c .before .loop .inv .2)))

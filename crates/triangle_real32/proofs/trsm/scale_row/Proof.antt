@@ -11,6 +11,6 @@ scale-row-spec = tie.close (tie.spec
     Inv-loop (λ alpha b₀ vb i n j₀ b j. n - j) (λ c κs. search needs) (λ c. (omega arith, refl, row-begun _ _ _ _ _ _))
     (λ c κs. search in-row)
     (λ c. omega arith) (λ c. omega arith)
-    (λ c. (omega arith, cc, search (row-next K)))
+    (λ c. (omega arith, omega arith, search (row-next K)))
     (λ c. search needs)
     (λ c. search (row-last K)))

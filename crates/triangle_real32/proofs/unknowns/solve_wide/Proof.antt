@@ -11,5 +11,5 @@ solve-wide-spec = tie.close (tie.spec
     Inv-loop (λ sys times alpha a b₀ n m k₀ b k. m - k) (λ c. (omega arith, refl, walk-start _ _))
     (λ c κs. let p = c .before .before .before .before .before .pre in (ready-kept _ _ _ _ (p .0) (c .before .before .loop .inv .1), (p .1 .0, omega (arith, p .1 .1)), p .2))
     (λ c. omega arith) (λ c. omega arith)
-    (λ c. (omega arith, cc, search walk-next))
+    (λ c. (omega arith, omega arith, search walk-next))
     (λ c. search needs) (λ c. search walk-end))

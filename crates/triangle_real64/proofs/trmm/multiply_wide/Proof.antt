@@ -11,7 +11,7 @@ multiply-wide-spec = tie.close (tie.spec
     Inv-loop (λ sys alpha a b₀ m k₀ b k. m - k) (λ c κs. tt) (λ c. (omega arith, refl, walk-start _ _))
     (λ c κs. (search ready-kept, search needs, search needs))
     (λ c. omega arith) (λ c. omega arith)
-    (λ c. (omega arith, cc, search walk-next))
+    (λ c. (omega arith, omega arith, search walk-next))
     (λ c. search needs)
     (λ c. element-after-element K (laws .slab) _ _ _ (c .before .before .before .before .before .pre .0 .apart) swaps _ _ _ (c .before .before .rows .ensures)
     (walk-end _ _ _ _ _ (c .before .loop .inv .0) (omega arith) (c .before .loop .inv .2))))

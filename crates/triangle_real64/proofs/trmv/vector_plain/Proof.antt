@@ -12,6 +12,6 @@ vector-plain-spec = tie.close (tie.spec
     (λ c κs. let p = c .before .before .before .before .before .before .pre in
     ready-for _ _ _ _ _ _ _ _ (p .0) (c .before .before .loop .inv .1) (c .before .before .before .rows .ensures) refl (omega arith) (omega (arith, p .1)))
     (λ c. omega arith) (λ c. omega arith)
-    (λ c. (omega arith, cc, search walk-next))
+    (λ c. (omega arith, omega arith, search walk-next))
     (λ c. search needs)
     (λ c. only-line K _ _ _ _ _ _ (c .before .before .before .before .before .pre .1) (c .before .before .rows .ensures) (walk-end _ _ _ _ _ (c .before .loop .inv .0) (omega arith) (c .before .loop .inv .2))))

@@ -11,6 +11,6 @@ scale-spec = tie.close (tie.spec
     Inv-loop (λ alpha b₀ vb m i₀ b i. m - i) (λ c κs. search needs) (λ c. (omega arith, refl, rows-begun _ _ _ _ _))
     (λ c κs. row-in _ _ _ _ _ (c .before .before .before .before .before .pre) (c .before .before .loop .inv .1) (c .before .before .before .rows .ensures) (c .before .loop-test .taken))
     (λ c. omega arith) (λ c. omega arith)
-    (λ c. (omega arith, cc, search (rows-next K)))
+    (λ c. (omega arith, omega arith, search (rows-next K)))
     (λ c. search needs)
     (λ c. search (rows-last K)))

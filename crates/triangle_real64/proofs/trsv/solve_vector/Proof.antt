@@ -23,7 +23,7 @@ solve-one-requires c κs =
 pub solve-vector-spec : {M : Type 1} → statement M
 solve-vector-spec = tie.close (tie.spec
     Inv-loop μ-loop (λ c κs. tt) (λ c. (omega arith, refl, clear-start _, walk-start _ _)) (λ c κs. (search needs, search needs)) (λ c. search needs) returns
-    solve-one-requires (λ c. omega arith) (λ c. omega arith) (λ c. (omega arith, cc, search clear-next, search walk-next)) (λ c. search needs)
+    solve-one-requires (λ c. omega arith) (λ c. omega arith) (λ c. (omega arith, omega arith, search clear-next, search walk-next)) (λ c. search needs)
     (λ c. let i = c .before .loop .inv in
     let e = c .before .before .rows .ensures in
     vector-done K _ _ _ _ _ _ _ (c .before .before .before .before .before .pre .1) e (first-nowhere _ _ _ _ e (i .0) (omega arith) (i .2)) (i .3) (omega arith)))

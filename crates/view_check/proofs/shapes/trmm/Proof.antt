@@ -1,8 +1,0 @@
--- `shapes::trmm` meets its contract, by those of its parts.
-use Rattle.view_check.proofs.Words.{needs, trmmShape}
-use Rattle.view_check.proofs.shapes.trmm.Statement.{statement}
-use Rattle.view_check.proofs.shapes.trmm.Tie as tie
-
-pub trmm-spec : {M : Type 1} → statement M
-unfolding trmmShape
-trmm-spec = tie.close (tie.spec (λ c κs. search needs) (λ c κs. search needs) (λ c. cc))

@@ -1,8 +1,0 @@
--- `shapes::trmv` meets its contract, by those of its parts.
-use Rattle.view_check.proofs.Words.{needs, trmvShape}
-use Rattle.view_check.proofs.shapes.trmv.Statement.{statement}
-use Rattle.view_check.proofs.shapes.trmv.Tie as tie
-
-pub trmv-spec : {M : Type 1} → statement M
-unfolding trmvShape
-trmv-spec = tie.close (tie.spec (λ c κs. search needs) (λ c κs. search needs) (λ c κs. search needs) (λ c. cc))
