@@ -2,6 +2,8 @@
 // the length of its slab in elements; flags that no shape rule looks at are left out. Each takes what the quick test of the call
 // answered: a call that passed it is done.
 
+#![tactic(auto)]
+
 mod bounds;
 pub mod quick;
 mod shapes;

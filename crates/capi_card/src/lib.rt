@@ -1,5 +1,7 @@
 // The C interface of cards: zb_card_read, zb_dcard_write and zb_zcard_write. What is handed back is written on answer 0 alone.
 
+#![tactic(auto)]
+
 ghost use Rattle.std.specs.Prelude.{◌≡◌};
 ghost use Rattle.card.specs.Answers.{card_number};
 ghost use Rattle.card.specs.Reading.{changed};

@@ -1,5 +1,7 @@
 // The C interface for complex numbers: zb_zgemm and the like.
 
+#![tactic(auto)]
+
 ghost use Rattle.number.specs.Kind.{complex};
 ghost use Rattle.slabs.specs.Elem.{lent};
 ghost use Rattle.capi_flags.specs.Interface.{complex_of, gemm_c, gemv_c, hemm_c, hemv_c, her2_c, her2k_c, her_c, herk_c, symm_c, syr2k_c, syrk_c, trmm_c, trmv_c, trsm_c, trsv_c, Returns};

@@ -1,5 +1,7 @@
 // Flags from the numbers that C passes.
 
+#![tactic(auto)]
+
 ghost use Rattle.std.specs.Prelude.{◌≡◌, ◌&&◌};
 ghost use Rattle.capi_flags.specs.Interface.{trans_in_range, up_lo_in_range, side_in_range, diag_in_range, trans_of, up_lo_of, side_of, diag_of};
 

@@ -1,4 +1,7 @@
 // Cards: a matrix in a file of 512-byte blocks, read and written.
+
+#![tactic(auto)]
+
 mod block;
 mod fill;
 pub mod judge;
@@ -13,7 +16,7 @@ pub use reader::read;
 pub use writer::{write_complex, write_f64};
 
 // The shape and the kind of a matrix on a card: kind 0 is f64, 1 complex.
-#[derive(Drop)]
+#[derive(Clone, Copy)]
 pub struct Header {
     pub kind: u8,
     pub rows: u16,
@@ -21,7 +24,7 @@ pub struct Header {
 }
 
 // What a card call answers: done, or the refusal.
-#[derive(Drop)]
+#[derive(Clone, Copy)]
 pub enum CardAnswer {
     Done,
     TooLarge,
@@ -31,21 +34,21 @@ pub enum CardAnswer {
 }
 
 // What reading hands back.
-#[derive(Drop)]
+#[derive(Clone, Copy)]
 pub struct Reading {
     pub answer: CardAnswer,
     pub header: Header,
 }
 
 // What writing hands back: the answer, and the card's length.
-#[derive(Drop)]
+#[derive(Clone, Copy)]
 pub struct Writing {
     pub answer: CardAnswer,
     pub length: usize,
 }
 
 // What is known of a file after some of its blocks.
-#[derive(Drop)]
+#[derive(Clone, Copy)]
 pub struct Scan {
     pub blocks: usize,
     pub torn: bool,

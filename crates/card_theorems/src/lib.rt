@@ -1,1 +1,3 @@
 // What holds of cards: statements in specs/, no code.
+
+#![tactic(auto)]

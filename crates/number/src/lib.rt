@@ -1,12 +1,14 @@
 // The number kinds of document 01: f64, f32 and complex, each with its constants and operations, and beta judged once.
 // Each operation rounds once, in the order written. Translated from control-rs; NOTICE names the source.
 
+#![tactic(auto)]
+
 ghost use Rattle.std.specs.Prelude.{◌≡◌};
 ghost use Rattle.number.specs.Kind.{real64, real32, complex};
 ghost use Rattle.number.specs.Scaling.{beta64, beta32, beta_complex, beta_real, scale_by64, scale_by32, scale_by_complex, times};
 
 // A real number of IEEE 754 binary64.
-#[derive(Drop)]
+#[derive(Clone, Copy)]
 pub struct Real64(pub f64);
 
 impl Real64 {
@@ -85,7 +87,7 @@ impl Real64 {
 }
 
 // What beta does to a target of f64.
-#[derive(Drop)]
+#[derive(Clone, Copy)]
 pub enum Beta64 {
     Clear,
     Keep,
@@ -125,7 +127,7 @@ impl Beta64 {
 }
 
 // A real number of IEEE 754 binary32.
-#[derive(Drop)]
+#[derive(Clone, Copy)]
 pub struct Real32(pub f32);
 
 impl Real32 {
@@ -204,7 +206,7 @@ impl Real32 {
 }
 
 // What beta does to a target of f32.
-#[derive(Drop)]
+#[derive(Clone, Copy)]
 pub enum Beta32 {
     Clear,
     Keep,
@@ -244,7 +246,7 @@ impl Beta32 {
 }
 
 // A complex number: its real and its imaginary part.
-#[derive(Drop)]
+#[derive(Clone, Copy)]
 pub struct Complex {
     pub re: f64,
     pub im: f64,
@@ -341,7 +343,7 @@ impl Complex {
 }
 
 // A factor of a complex number: complex, or real.
-#[derive(Drop)]
+#[derive(Clone, Copy)]
 pub enum Multiplier {
     Number(Complex),
     Real(f64),
@@ -360,7 +362,7 @@ impl Multiplier {
 }
 
 // What beta does to a complex target.
-#[derive(Drop)]
+#[derive(Clone, Copy)]
 pub enum BetaComplex {
     Clear,
     Keep,

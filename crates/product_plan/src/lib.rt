@@ -1,6 +1,8 @@
 // The plan of a product and each routine's plan: the same for every number kind.
 // Translated from control-rs; NOTICE names the source.
 
+#![tactic(auto)]
+
 mod plan;
 mod routines;
 

@@ -6,7 +6,7 @@ ghost use Rattle.product_plan.specs.Plan.{terms_before};
 use view::View;
 
 // Where the factors of a term are read: (i, p) of the left view and (p, j) of the right one, and whether they are conjugated.
-#[derive(Drop)]
+#[derive(Clone, Copy)]
 pub struct Factors {
     pub left: View,
     pub left_conj: bool,
@@ -15,7 +15,7 @@ pub struct Factors {
 }
 
 // target ← scaled target + alpha · Σ left(i, p) · right(p, j), with p below `terms`.
-#[derive(Drop)]
+#[derive(Clone, Copy)]
 pub struct Plan {
     pub factors: Factors,
     pub terms: usize,
@@ -23,7 +23,7 @@ pub struct Plan {
 }
 
 // After how many terms the sum of element (i, j) meets the other triangle: at the diagonal of row i or of column j, or past it.
-#[derive(Drop)]
+#[derive(Clone, Copy)]
 pub enum Turn {
     AtRow,
     PastRow,
@@ -32,7 +32,7 @@ pub enum Turn {
 }
 
 // The same with an operand of which one triangle is read: the terms before the turn have other factors than those after it.
-#[derive(Drop)]
+#[derive(Clone, Copy)]
 pub struct Folded {
     pub turn: Turn,
     pub head: Factors,

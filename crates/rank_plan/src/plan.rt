@@ -6,7 +6,7 @@ ghost use Rattle.rank_plan.specs.Plan.{syr_readings, her_readings, paired_plan, 
 use view::{Trans, UpLo, View, conjugates, op_cols, op_view};
 
 // How the left and the right factor of a product are read.
-#[derive(Drop)]
+#[derive(Clone, Copy)]
 pub struct Readings {
     pub left: Trans,
     pub right: Trans,
@@ -14,7 +14,7 @@ pub struct Readings {
 
 // The target's named triangle, and where the factors of the products left(a)(i, p) · right(b)(p, j) and
 // left(b)(i, p) · right(a)(p, j) are read, with p below `terms`, and whether they are conjugated.
-#[derive(Drop)]
+#[derive(Clone, Copy)]
 pub struct Plan {
     pub uplo: UpLo,
     pub left_a: View,

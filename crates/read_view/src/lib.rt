@@ -1,6 +1,8 @@
 // A view that holds its slab by reference: its rows and columns, and element (r, c) of either kind that f64 slabs hold. The functions over
 // the struct are thin: each takes it apart and calls one that has a slab and a view. Who has these two calls `element`.
 
+#![tactic(auto)]
+
 ghost use Rattle.std.specs.Prelude.{◌≡◌};
 ghost use Rattle.number.specs.Kind.{real64, complex};
 ghost use Rattle.view.specs.Checks.{read_check};
@@ -12,20 +14,20 @@ use slabs::complex::get as get_complex;
 use slabs::real64::get as get64;
 use view::{Answer, View, cols, passed, place, rows};
 
-#[derive(Drop)]
+#[derive(Clone, Copy)]
 pub struct ReadView<'a> {
     pub slab: &'a [f64],
     pub view: View,
 }
 
 // What reading an element finds: the number, or the refusal.
-#[derive(Drop)]
+#[derive(Clone, Copy)]
 pub enum Found {
     Number(f64),
     Refused(Answer),
 }
 
-#[derive(Drop)]
+#[derive(Clone, Copy)]
 pub enum FoundComplex {
     Number(Complex),
     Refused(Answer),

@@ -1,4 +1,7 @@
 // A list of recorded calls: its records, their fields, slabs and scalars, and the counts of the calls that agreed.
+
+#![tactic(auto)]
+
 mod cells;
 pub mod complex;
 mod file;

@@ -1,4 +1,7 @@
 // Replays the list of card calls: cards that are read, and cards that are written, of both kinds.
+
+#![tactic(auto)]
+
 mod call;
 mod record;
 

@@ -1,4 +1,7 @@
 // Replays the list of checks: the refusals 1 to 4 of the fifteen routines, by views and lengths alone.
+
+#![tactic(auto)]
+
 mod checks;
 
 use recorded_calls::{check_length, check_view, side, trans};

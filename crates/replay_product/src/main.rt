@@ -1,4 +1,7 @@
 // Replays the list of products: gemv, hemv, gemm, symm, hemm, syrk and herk, for each kind.
+
+#![tactic(auto)]
+
 mod complex;
 mod real32;
 mod real64;

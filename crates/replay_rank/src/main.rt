@@ -1,4 +1,7 @@
 // Replays the list of rank updates: her, her2, syr2k and her2k, for each kind.
+
+#![tactic(auto)]
+
 mod complex;
 mod real32;
 mod real64;

@@ -1,4 +1,7 @@
 // Replays the list of triangular routines: trmv, trsv, trmm and trsm, for each kind.
+
+#![tactic(auto)]
+
 mod complex;
 mod real32;
 mod real64;

@@ -1,4 +1,7 @@
 // One slab printed as several matrices, by what the strides say, negative ones included; and reads that are refused.
+
+#![tactic(auto)]
+
 use read_view::{Found, FoundComplex};
 use text::{column, text};
 use view::{Answer, View};

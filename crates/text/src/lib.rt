@@ -1,4 +1,7 @@
 // Numbers and judgements as text, on the standard output. A number is written as what it is, then its bits in brackets, in hexadecimal.
+
+#![tactic(auto)]
+
 use number::{Beta32, Beta64, BetaComplex, Complex, Multiplier, Real32, Real64};
 
 pub fn text(s: &[u8]) {

@@ -1,6 +1,8 @@
 // A triangular system or product, chosen before its loops, and the order in which it goes over its target: the same for every number kind.
 // Translated from control-rs; NOTICE names the source.
 
+#![tactic(auto)]
+
 ghost use Rattle.std.specs.Prelude.{◌≡◌, ◌≤◌, ◌<◌, ◌+◌};
 ghost use Rattle.blas.specs.Triangular as triangular;
 ghost use Rattle.blas.specs.Substitution as substitution;
@@ -12,7 +14,7 @@ use view::{Answer, Diag, Side, Trans, UpLo, View, cols, conjugates, op_view, row
 
 // What a triangular routine works on. Coefficient (q, p) of its equations is element (q, p) of `a`, conjugated or not; unknown p of line l is
 // element (p, l) of `b`. The last unknown is solved first, or the first one is.
-#[derive(Drop)]
+#[derive(Clone, Copy)]
 pub struct System {
     pub side: Side,
     pub diag: Diag,

@@ -1,6 +1,8 @@
 // The triangular products and solves of f64. kind.rt has the names that differ from kind to kind.
 // Translated from control-rs; NOTICE names the source.
 
+#![tactic(auto)]
+
 mod eight;
 mod kind;
 mod line;

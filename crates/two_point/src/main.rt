@@ -1,5 +1,8 @@
 // The two-point path: two points are taught, a line through them is fitted by a forward and a backward solve, and its waypoints are
 // printed, beside those of a backward solve that ends one row short. Then three calls that are refused.
+
+#![tactic(auto)]
+
 mod path;
 mod report;
 

@@ -1,4 +1,7 @@
 // Views of a slab, the flags of the routines, and what a call answers.
+
+#![tactic(auto)]
+
 ghost use Rattle.std.specs.Prelude.{◌≡◌, true, ◌<◌, ◌^◌, pos, ◌*ℤ◌};
 ghost use Rattle.std.specs.Int.{w64};
 ghost use Rattle.std.proofs.Common.{SFits};
@@ -10,7 +13,7 @@ ghost use Rattle.view.specs.Checks.{op_rows, op_cols, vector_of};
 ghost use Rattle.view.specs.Steps.{Shown};
 
 // Element (r, c) is at start + r * rs + c * cs, counted in elements of the slab.
-#[derive(Drop)]
+#[derive(Clone, Copy)]
 pub struct View {
     pub start: usize,
     pub rows: usize,
@@ -20,14 +23,14 @@ pub struct View {
 }
 
 // A row and a column.
-#[derive(Drop)]
+#[derive(Clone, Copy)]
 pub struct Coord {
     pub row: usize,
     pub col: usize,
 }
 
 // op(A) is the matrix, its transpose, or its conjugate transpose.
-#[derive(Drop)]
+#[derive(Clone, Copy)]
 pub enum Trans {
     NoTrans,
     Trans,
@@ -35,28 +38,28 @@ pub enum Trans {
 }
 
 // The triangle that is named.
-#[derive(Drop)]
+#[derive(Clone, Copy)]
 pub enum UpLo {
     Upper,
     Lower,
 }
 
 // Whether the diagonal is read, or counts as ones.
-#[derive(Drop)]
+#[derive(Clone, Copy)]
 pub enum Diag {
     NonUnit,
     Unit,
 }
 
 // The side on which A stands.
-#[derive(Drop)]
+#[derive(Clone, Copy)]
 pub enum Side {
     Left,
     Right,
 }
 
 // What a call answers: done, or the refusal.
-#[derive(Drop)]
+#[derive(Clone, Copy)]
 pub enum Answer {
     Done,
     TooLarge,

@@ -1,4 +1,7 @@
 // Worked numbers, run by the proved functions and printed, one to a line. crates/number/proofs/WorkedNumbers.antt proves the same.
+
+#![tactic(auto)]
+
 use number::{Beta32, Beta64, BetaComplex, Complex, Real32, Real64};
 
 fn main() {

@@ -12,14 +12,14 @@ in-range s =
     record { fits = omega arith }
 
 -- the strides
-rs-is : (c : tie.After-struct-told) → to_z w64 (of_z w64 c.before.before.args.v.rs) ≡ c.before.before.args.v.rs
-rs-is c = to_z-of_z {w = w64} {z = c.before.before.args.v.rs} (record { sfits = c.struct_told.given.1.1.1.0.1 })
+rs-is : (c : tie.After-struct_told-1) → to_z w64 (of_z w64 c.args.v.rs) ≡ c.args.v.rs
+rs-is c = to_z-of_z {w = w64} {z = c.args.v.rs} (record { sfits = c.struct_told-1.given.1.1.1.0.1 })
 
-cs-is : (c : tie.After-struct-told2) → to_z w64 (of_z w64 c.before.before.before.before.args.v.cs) ≡ c.before.before.before.before.args.v.cs
-cs-is c = to_z-of_z {w = w64} {z = c.before.before.before.before.args.v.cs} (record { sfits = c.struct-told2.given.1.1.1.1.0.1 })
+cs-is : (c : tie.After-struct_told-2-1) → to_z w64 (of_z w64 c.args.v.cs) ≡ c.args.v.cs
+cs-is c = to_z-of_z {w = w64} {z = c.args.v.cs} (record { sfits = c.struct_told-2-1.given.1.1.1.1.0.1 })
 
 -- the start and the steps down the rows
-row_is : (c : tie.After-steps) → to_z w64 (of_z w64 c.steps.result) ≡ pos c.before.before.before.args.r *ℤ c.before.before.before.args.v.rs
+row_is : (c : tie.After-steps) → to_z w64 (of_z w64 c.steps.result) ≡ pos c.args.r *ℤ c.args.v.rs
 row_is c =
     let s = c.before.before.before in
     let e = c.steps.ensures ∙ ap (λ (z : ℤ). pos s.args.r *ℤ z) (rs-is c.before) in
@@ -30,26 +30,26 @@ part c =
     let s = c.before.before.before in
     λ i. to_z_pos w64 s.args.v.start (all s).start-lt i +ℤ row_is c i
 
-add-result : tie.Need-overflow-add-result
+add-result : tie.Need-overflow_add-result
 add-result c = subst (SFits w64) (sym (part c)) (all c.before.before.before).part
 
 -- the whole sum
-col-is : (c : tie.After-steps2) → (let s = c.before.before.before.before.before in to_z w64 (of_z w64 c.steps2.result) ≡ pos s.args.c *ℤ s.args.v.cs)
+col-is : (c : tie.After-steps-2) → (let s = c.before.before.before.before.before in to_z w64 (of_z w64 c.steps-2.result) ≡ pos s.args.c *ℤ s.args.v.cs)
 col-is c =
     let s = c.before.before.before.before.before in
-    let e = c.steps2.ensures ∙ ap (λ (z : ℤ). pos s.args.c *ℤ z) (cs-is c.before) in
-    to_z-of_z {w = w64} {z = c.steps2.result} (subst (SFits w64) (sym e) (all s).col) ∙ e
+    let e = c.steps-2.ensures ∙ ap (λ (z : ℤ). pos s.args.c *ℤ z) (cs-is c.before) in
+    to_z-of_z {w = w64} {z = c.steps-2.result} (subst (SFits w64) (sym e) (all s).col) ∙ e
 
-total : (c : tie.After-steps2) → (let s = c.before.before.before.before.before in to_z w64 (of_z w64 (to_z w64 s.args.v.start +ℤ to_z w64 (of_z w64 c.before.before.steps.result))) +ℤ to_z w64 (of_z w64 c.steps2.result) ≡ pos s.args.v.start +ℤ pos s.args.r *ℤ s.args.v.rs +ℤ pos s.args.c *ℤ s.args.v.cs)
+total : (c : tie.After-steps-2) → (let s = c.before.before.before.before.before in to_z w64 (of_z w64 (to_z w64 s.args.v.start +ℤ to_z w64 (of_z w64 c.steps.result))) +ℤ to_z w64 (of_z w64 c.steps-2.result) ≡ pos s.args.v.start +ℤ pos s.args.r *ℤ s.args.v.rs +ℤ pos s.args.c *ℤ s.args.v.cs)
 total c =
     let p = to_z-of_z (add-result c.before.before) ∙ part c.before.before in
     λ i. p i +ℤ col-is c i
 
-add-result-2 : tie.Need-overflow-add-result-2
+add-result-2 : tie.Need-overflow_add-result-2
 add-result-2 c = subst (SFits w64) (sym (total c)) (all c.before.before.before.before.before).whole
 
-pub place-spec : {M : Type 1} → statement M
-place-spec = tie.close (tie.spec
+pub place_spec : {M : Type 1} → statement M
+place_spec = tie.close (tie.spec
     (λ c. record { sfits = (all c.before).start-lt })
     (λ c κs. let s = c.before.before in ((all s).row_lt, subst (λ (z : ℤ). SFits w64 (pos s.args.r *ℤ z)) (sym (rs-is c)) (all s).row)) add-result
     (λ c κs. let s = c.before.before.before.before in ((all s).col-lt, subst (λ (z : ℤ). SFits w64 (pos s.args.c *ℤ z)) (sym (cs-is c)) (all s).col))

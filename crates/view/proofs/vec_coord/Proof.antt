@@ -3,6 +3,6 @@ use Rattle.view.proofs.Words.{le-leb, lt-leb, vec_coord}
 use Rattle.view.proofs.vec_coord.Statement.{statement}
 use Rattle.view.proofs.vec_coord.Tie as tie
 
-pub vec-coord-spec : {M : Type 1} → statement M
+pub vec_coord_spec : {M : Type 1} → statement M
 unfolding vec_coord
-vec-coord-spec = tie.close (tie.spec (λ c. simp (le-leb _ _ c.if1.true)) (λ c. simp (lt-leb _ _ c.if1.false)))
+vec_coord_spec = tie.close (tie.spec (λ c. simp (le-leb _ _ c.if-v.true)) (λ c. simp (lt-leb _ _ c.if-v.false)))

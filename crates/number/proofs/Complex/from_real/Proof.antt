@@ -3,5 +3,5 @@ use Rattle.number.proofs.Words.{binary64, zero-literal}
 use Rattle.number.proofs.Complex.from_real.Statement.{statement}
 use Rattle.number.proofs.Complex.from_real.Tie as tie
 
-pub from-real-spec : {M : Type 1} → statement M
-from-real-spec = tie.close (tie.spec (λ c. rw (zero-literal binary64)))
+pub from_real_spec : {M : Type 1} → statement M
+from_real_spec = tie.close (tie.spec (λ c. rw (zero-literal binary64)))

@@ -3,5 +3,5 @@ use Rattle.number.proofs.Words.{one-literal32}
 use Rattle.number.proofs.Real32.is_one.Statement.{statement}
 use Rattle.number.proofs.Real32.is_one.Tie as tie
 
-pub is-one-spec : {M : Type 1} → statement M
-is-one-spec = tie.close (tie.spec (λ c. rw one-literal32))
+pub is_one_spec : {M : Type 1} → statement M
+is_one_spec = tie.close (tie.spec (λ c. rw one-literal32))

@@ -3,5 +3,5 @@ use Rattle.number.proofs.Words.{binary32, zero-literal}
 use Rattle.number.proofs.Real32.zero.Statement.{statement}
 use Rattle.number.proofs.Real32.zero.Tie as tie
 
-pub zero-spec : {M : Type 1} → statement M
-zero-spec = tie.close (tie.spec (λ c. zero-literal binary32))
+pub zero_spec : {M : Type 1} → statement M
+zero_spec = tie.close (tie.spec (λ c. zero-literal binary32))

@@ -3,5 +3,5 @@ use Rattle.number.proofs.Words.{binary64, zero-literal}
 use Rattle.number.proofs.Real64.is_zero.Statement.{statement}
 use Rattle.number.proofs.Real64.is_zero.Tie as tie
 
-pub is-zero-spec : {M : Type 1} → statement M
-is-zero-spec = tie.close (tie.spec (λ c. rw (zero-literal binary64)))
+pub is_zero_spec : {M : Type 1} → statement M
+is_zero_spec = tie.close (tie.spec (λ c. rw (zero-literal binary64)))
