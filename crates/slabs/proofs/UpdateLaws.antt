@@ -304,6 +304,6 @@ module _ (K : Kind) (L : SlabLaws K) (v : View) (mask : Mask) (u : Change K) whe
   unfolding update_rows
   update-held h s e =
       keep-rows K v mask u (Held K) 0 v.rows (omega arith)
-      (λ i _ p j q m t e. L.Put-Holds t (index v i j) _ e (h i j p q m _ (L.at-holds t (index v i j) e)))
+      (λ i _ p j q m t e. L.put_holds t (index v i j) _ e (h i j p q m _ (L.at-holds t (index v i j) e)))
       s
       e

@@ -20,7 +20,7 @@ pub add-beside-spec : {M : Type 1} → statement M
 add-beside-spec = tie.close (tie.spec
     invariant-loop decreases-loop
     (λ c. let s = c.before.before in
-    (omega arith, s.requires.0.ordered, eight-start K _ _ _ _ (record { count = good_length cell 8 s.args.sums _ s.well-formed.1.1.1.1.1.1.1.0; sum = λ t l. refl })))
+    (omega arith, s.requires.0.ordered, eight-start K _ _ _ _ (record { count = good_length cell 8 s.args.sums _ s.well_formed.1.1.1.1.1.1.1.0; sum = λ t l. refl })))
     (λ c κs. c.before.before.before.before.requires.0.left _ (omega arith))
     (λ c κs. let h = c.before.before.before.before.before.requires.0.right c.before.before.loop.p (omega arith) in
     shown _ _ _ _ (record { fits = h.fits; row = h.row; col = omega (arith, h.col) }) (omega arith))

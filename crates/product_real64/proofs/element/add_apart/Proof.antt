@@ -19,6 +19,6 @@ pub add-apart-spec : {M : Type 1} → statement M
 add-apart-spec = tie.close (tie.spec
     invariant-loop decreases-loop
     (λ c. let s = c.before.before in
-    (omega arith, s.requires.ordered, eight-start K _ _ _ _ (record { count = good_length cell 8 s.args.sums _ s.well-formed.1.1.1.1.1.1.1.0; sum = λ t l. refl })))
+    (omega arith, s.requires.ordered, eight-start K _ _ _ _ (record { count = good_length cell 8 s.args.sums _ s.well_formed.1.1.1.1.1.1.1.0; sum = λ t l. refl })))
     (λ c κs. c.before.before.before.before.requires.left _ (omega arith)) (λ c κs. c.before.before.before.before.before.requires.right _ (omega arith))
     (λ c. omega arith) (λ c. omega arith) loop-again (λ c. eight-end K _ _ _ _ _ _ c.before.loop.invariant.1 (omega arith) c.before.loop.invariant.2))

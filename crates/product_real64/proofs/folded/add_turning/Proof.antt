@@ -10,7 +10,7 @@ pub add-turning-spec : {M : Type 1} → statement M
 add-turning-spec = tie.close (tie.spec
     invariant-loop (λ plan a b i j from end totals₀ p₀ totals p. end - p)
     (λ c. let s = c.before.before in
-    (omega arith, s.requires.5, eight-start K _ _ _ _ (record { count = good_length cell 8 s.args.sums _ s.well-formed.1.1.1.1.1.1.1.0; sum = λ t l. refl })))
+    (omega arith, s.requires.5, eight-start K _ _ _ _ (record { count = good_length cell 8 s.args.sums _ s.well_formed.1.1.1.1.1.1.1.0; sum = λ t l. refl })))
     (λ c κs. let r = c.before.before.before.before.requires in (r.0, r.1, r.2, r.3, r.4, omega (arith, r.6)))
     (λ c. omega arith) (λ c. omega arith)
     (λ c. let l = c.before.before.loop in (omega arith, omega arith, eight-on K _ _ l.totals _ _ _ l.invariant.0 l.invariant.2 c.plus-turning.ensures))

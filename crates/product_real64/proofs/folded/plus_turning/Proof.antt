@@ -23,6 +23,6 @@ loop-again c =
 
 pub plus-turning-spec : {M : Type 1} → statement M
 plus-turning-spec = tie.close (tie.spec
-    invariant-loop decreases-loop (λ c. part-start K slab _ _ (good_length cell 8 c.before.before.args.sums _ c.before.before.well-formed.1.1.1.1.1.1.0))
+    invariant-loop decreases-loop (λ c. part-start K slab _ _ (good_length cell 8 c.before.before.args.sums _ c.before.before.well_formed.1.1.1.1.1.1.0))
     (λ c. omega arith) (λ c. omega arith) (λ c. let r = c.before.before.before.before.requires in omega (arith, r.3, r.4)) (λ c. let r = c.before.before.before.before.requires in omega (arith, r.3, r.4)) (λ c. let r = c.before.before.before.before.requires in omega (arith, r.3, r.4)) folded-term-requires (λ c κs. tt) (λ c. omega arith) (λ c. omega arith) (λ c. omega arith) (λ c. omega arith) loop-again
     (λ c. let l = c.before.loop in part_end K slab _ _ l.next l.t (omega arith) l.invariant))

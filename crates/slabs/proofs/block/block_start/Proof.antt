@@ -3,5 +3,5 @@ use Rattle.slabs.proofs.Words.{arith}
 use Rattle.slabs.proofs.block.block_start.Statement.{statement}
 use Rattle.slabs.proofs.block.block_start.Tie as tie
 
-pub block-start-spec : {M : Type 1} → statement M
-block-start-spec = tie.close (tie.spec (omega arith) (omega arith) (λ c. (omega arith, omega arith, omega arith)) (λ c. (omega arith, omega arith, omega arith)))
+pub block_start_spec : {M : Type 1} → statement M
+block_start_spec = tie.close (tie.spec (omega arith) (omega arith) (λ c. (omega arith, omega arith, omega arith)) (λ c. (omega arith, omega arith, omega arith)))

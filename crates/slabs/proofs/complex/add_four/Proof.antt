@@ -3,17 +3,17 @@ use Rattle.slabs.proofs.Words.{ℕ, ◌+◌, ◌-◌, ◌/◌, ap, ◌∙◌, ar
 use Rattle.slabs.proofs.complex.add_four.Statement.{statement}
 use Rattle.slabs.proofs.complex.add_four.Tie as tie
 
-abbrev invariant-loop : tie.invariant-loop
+abbrev invariant-loop : tie.invariant-loop-t
 invariant-loop x conj s v p j next₀ t₀ next t = PartOf complex 4 (λ q. complex.add (complex.at next₀ q) (complex.mul x (elem_conj complex conj s v p (j + q)))) next₀ next t
 
-pub add-four-spec : {M : Type 1} → statement M
-add-four-spec = tie.close (tie.spec
+pub add_four_spec : {M : Type 1} → statement M
+add_four_spec = tie.close (tie.spec
     invariant-loop (λ x conj s v p j next₀ t₀ next t. 4 - t)
-    (λ c. part-start complex complex-slab _ _ (ap (λ (n : ℕ). n / 2) (good_length (e_float binary64) 8 c.before.args.sums _ c.before.well-formed.1.1.1.1.1.1.0)))
-    (λ c. omega (arith, c.before.before.before.requires.col, c.before.before.before.requires.fits.cols-le))
-    (λ c κs. let h = c.before.before.before.requires in record { fits = h.fits; row = h.row; col = omega (arith, h.col) }) (omega arith) (search)
+    (λ c. part-start complex complex-slab _ _ (ap (λ (n : ℕ). n / 2) (good_length (e_float binary64) 8 c.args.sums _ c.well_formed.1.1.1.1.1.1.0)))
+    (λ c. omega (arith, c.requires.col, c.requires.fits.cols-le))
+    (λ c κs. let h = c.requires in record { fits = h.fits; row = h.row; col = omega (arith, h.col) }) (omega arith) (search)
     (search) (omega arith) (omega arith) (omega arith) (omega arith) (omega arith) (omega arith) (omega arith) (omega arith) (omega arith)
-    (λ c. let l = c.before.before.before.before.before.loop in
+    (λ c. let l = c.loop-t in
     part-next complex complex-slab _ _ l.next l.t _ (omega arith) l.invariant
-    (c.add.ensures ∙ (λ i. complex.add ((c.before.before.sum-of-four.ensures ∙ l.invariant.rest l.t (omega arith)) i) ((c.before.mul.ensures ∙ ap (complex.mul c.before.before.before.before.before.before.before.args.x) c.before.before.before.elem-conj.ensures) i))))
-    (λ c. let l = c.before.loop in part_end complex complex-slab _ _ l.next l.t (omega arith) l.invariant))
+    (c.add-sum.ensures ∙ (λ i. complex.add ((c.sum_of_four.ensures ∙ l.invariant.rest l.t (omega arith)) i) ((c.mul.ensures ∙ ap (complex.mul c.args.x) c.elem_conj-y.ensures) i))))
+    (λ c. let l = c.loop-t in part_end complex complex-slab _ _ l.next l.t (omega arith) l.invariant))

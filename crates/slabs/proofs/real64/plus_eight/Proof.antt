@@ -5,16 +5,16 @@ use Rattle.slabs.proofs.Words.{◌+◌, ◌-◌, ap, ◌∙◌, arith, good_leng
 use Rattle.slabs.proofs.real64.plus_eight.Statement.{statement}
 use Rattle.slabs.proofs.real64.plus_eight.Tie as tie
 
-abbrev invariant-loop : tie.invariant-loop
+abbrev invariant-loop : tie.invariant-loop-t
 invariant-loop x s v p j next₀ t₀ next t = Part real64 (λ q. real64.add (real64.at next₀ q) (real64.mul x.0 (elem real64 s v p (j + q)))) next₀ next t
 
-pub plus-eight-spec : {M : Type 1} → statement M
-plus-eight-spec = tie.close (tie.spec
+pub plus_eight_spec : {M : Type 1} → statement M
+plus_eight_spec = tie.close (tie.spec
     invariant-loop (λ x s v p j next₀ t₀ next t. 8 - t)
-    (λ c. part-start real64 slab _ _ (good_length cell 8 c.before.args.sums _ c.before.well-formed.1.1.1.1.1.0))
-    (omega arith) (omega arith) (omega arith) (λ c κs. let h = c.before.before.before.requires in record { fits = h.fits; row = h.row; col = omega (arith, h.col) }) (search) (search)
+    (λ c. part-start real64 slab _ _ (good_length cell 8 c.args.sums _ c.well_formed.1.1.1.1.1.0))
+    (omega arith) (omega arith) (omega arith) (λ c κs. let h = c.requires in record { fits = h.fits; row = h.row; col = omega (arith, h.col) }) (search) (search)
     (omega arith) (omega arith) (omega arith) (omega arith)
-    (λ c. let l = c.before.before.before.before.loop in
+    (λ c. let l = c.loop-t in
     part-next real64 slab _ _ l.next l.t _ (omega arith) l.invariant
-    (c.add.ensures ∙ (λ i. real64.add (l.invariant.rest l.t (omega arith) i) ((c.before.mul.ensures ∙ ap (real64.mul c.before.before.before.before.before.before.args.x.0) c.before.before.elem.ensures) i))))
-    (λ c. let l = c.before.loop in part_end real64 slab _ _ l.next l.t (omega arith) l.invariant))
+    (c.add.ensures ∙ (λ i. real64.add (l.invariant.rest l.t (omega arith) i) ((c.mul.ensures ∙ ap (real64.mul c.args.x.0) c.elem.ensures) i))))
+    (λ c. let l = c.loop-t in part_end real64 slab _ _ l.next l.t (omega arith) l.invariant))

@@ -20,7 +20,7 @@ put-eight-spec = tie.close (tie.spec
     invariant-loop decreases-loop (λ c. omega arith) (λ c. (omega arith, refl, walk_start _ _)) (λ c. omega arith) (λ c. omega arith)
     (λ c κs. let g = c.before.before.before.before in
     let p = g.requires in
-    shown _ _ _ _ (in_row _ _ _ _ _ g.args.v.cols p.0.fits refl p.0.row refl (omega (arith, p.0.col, p.2))) (omega (arith, g.well-formed.0)))
+    shown _ _ _ _ (in_row _ _ _ _ _ g.args.v.cols p.0.fits refl p.0.row refl (omega (arith, p.0.col, p.2))) (omega (arith, g.well_formed.0)))
     (λ c. omega arith) (λ c. omega arith) put-requires (λ c. omega arith) (λ c. omega arith)
     (λ c. let l = c.before.before.before.before.before.before.loop in
     (omega arith, c.before.before.put.auto.0 ∙ l.invariant.1, walk-next _ _ _ _ _ l.invariant.2 (rw c.before.before.before.place.ensures at c.before.before.put.ensures)))

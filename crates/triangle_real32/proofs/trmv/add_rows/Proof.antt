@@ -20,7 +20,7 @@ add-rows-spec = tie.close (tie.spec
     invariant-loop decreases-loop (λ c κs. tt) (λ c. search needs)
     (λ c. let g = c.before.before.before in
     let p = g.args in
-    (omega arith, omega arith, rows-first K self-conjugate commutes p.sys (now p.a) (now p.b) p.q p.from p.xs (good_length cell 8 p.xs _ g.well-formed.1.1.1.1.1.1.0)))
+    (omega arith, omega arith, rows-first K self-conjugate commutes p.sys (now p.a) (now p.b) p.q p.from p.xs (good_length cell 8 p.xs _ g.well_formed.1.1.1.1.1.1.0)))
     (λ c κs. let r = c.before.before.before.before.before.requires in unknown-shown _ _ _ r.0.ready _ _ (omega (arith, r.1)) (omega (arith, r.0.one)))
     (λ c κs. let r = c.before.before.before.before.before.before.requires in rw c.before.before.before.transposed.ensures (rows-shown _ _ _ _ r.0 _ (omega (arith, r.1))))
     (λ c. search needs) (λ c. omega arith) loop-again

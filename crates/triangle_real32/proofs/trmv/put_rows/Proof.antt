@@ -13,7 +13,7 @@ place-requires : tie.Need-place-requires invariant-loop decreases-loop
 place-requires c κs =
     let g = c.before.before.before.before.before in
     let p = g.requires in
-    shown _ _ _ _ (in_row _ _ _ _ _ g.args.v.cols p.0.fits refl (omega (arith, p.0.row, c.before.in_order.ensures.1)) refl p.0.col) (omega (arith, g.well-formed.1.0))
+    shown _ _ _ _ (in_row _ _ _ _ _ g.args.v.cols p.0.fits refl (omega (arith, p.0.row, c.before.in_order.ensures.1)) refl p.0.col) (omega (arith, g.well_formed.1.0))
 
 put-requires : tie.Need-put-requires invariant-loop decreases-loop
 put-requires c κs =

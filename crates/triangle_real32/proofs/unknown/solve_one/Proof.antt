@@ -7,7 +7,7 @@ reduce-requires : tie.Need-reduce-requires
 reduce-requires c κs = run-spans _ _ _ c.before.before.before.before.before.before.before.before.before.requires.ready _ _ _ _ (omega (arith, c.before.before.before.before.before.in_order.ensures.1, c.before.before.before.before.before.before.rows.ensures)) c.before.before.before.before.before.before.before.before.before.requires.line (omega (arith, c.before.before.before.before.least-solved.ensures.1, c.before.before.before.before.before.before.rows.ensures))
 
 place-requires : tie.Need-place-requires
-place-requires c κs = shown _ _ _ _ (unknown-shown _ _ _ c.before.before.before.before.before.before.before.before.before.before.before.before.requires.ready _ _ (omega (arith, c.before.before.before.before.before.before.before.before.in_order.ensures.1, c.before.before.before.before.before.before.before.before.before.rows.ensures)) c.before.before.before.before.before.before.before.before.before.before.before.before.requires.line) (omega (arith, c.before.before.before.before.before.before.before.before.before.before.before.before.well-formed.1.1.1.1.0))
+place-requires c κs = shown _ _ _ _ (unknown-shown _ _ _ c.before.before.before.before.before.before.before.before.before.before.before.before.requires.ready _ _ (omega (arith, c.before.before.before.before.before.before.before.before.in_order.ensures.1, c.before.before.before.before.before.before.before.before.before.rows.ensures)) c.before.before.before.before.before.before.before.before.before.before.before.before.requires.line) (omega (arith, c.before.before.before.before.before.before.before.before.before.before.before.before.well_formed.1.1.1.1.0))
 
 put-requires : tie.Need-put-requires
 put-requires c κs = inside _ _ _ _ (unknown-shown _ _ _ c.before.before.before.before.before.before.before.before.before.before.before.before.before.requires.ready _ _ (omega (arith, c.before.before.before.before.before.before.before.before.before.in_order.ensures.1, c.before.before.before.before.before.before.before.before.before.before.rows.ensures)) c.before.before.before.before.before.before.before.before.before.before.before.before.before.requires.line) _ c.place.ensures

@@ -9,7 +9,7 @@ invariant-loop alpha next₀ t₀ next t = Part K (λ q. K.mul (value alpha) (K.
 pub times-eight-spec : {M : Type 1} → statement M
 times-eight-spec = tie.close (tie.spec
     invariant-loop (λ alpha next₀ t₀ next t. 8 - t)
-    (λ c. part-start K slab _ _ (good_length cell 8 c.args.xs _ c.well-formed.1.0)) (λ c. omega arith)
+    (λ c. part-start K slab _ _ (good_length cell 8 c.args.xs _ c.well_formed.1.0)) (λ c. omega arith)
     (λ c. omega arith) (λ c κs. tt) (λ c. omega arith) (λ c. omega arith) (λ c. omega arith) (λ c. omega arith)
     (λ c. let l = c.before.before.loop in
     part-next K slab _ _ l.next l.t _ (omega arith) l.invariant (c.mul.ensures ∙ ap (K.mul (value c.before.before.before.args.alpha)) (l.invariant.rest l.t (omega arith))))

@@ -12,7 +12,7 @@ decreases-loop conjugated a va b vb q l from n sums₀ end p₀ sums p = end - p
 loop-holds : tie.Need-loop-init invariant-loop decreases-loop
 loop-holds c =
     let p = c.before.before.args in
-    (omega arith, omega arith, more-first K p.conjugated (now p.a) p.va (now p.b) p.vb p.q p.l p.from p.xs (good_length cell 8 p.xs _ c.before.before.well-formed.1.1.1.1.1.1.1.1.1.0))
+    (omega arith, omega arith, more-first K p.conjugated (now p.a) p.va (now p.b) p.vb p.q p.l p.from p.xs (good_length cell 8 p.xs _ c.before.before.well_formed.1.1.1.1.1.1.1.1.1.0))
 
 loop-again : tie.Need-loop-preserved invariant-loop decreases-loop
 loop-again c =

@@ -18,6 +18,6 @@ loop-again c =
 
 pub own-last-eight-spec : {M : Type 1} → statement M
 own-last-eight-spec = tie.close (tie.spec
-    invariant-loop decreases-loop (λ c. part-start K slab _ _ (good_length cell 8 c.before.before.args.xs _ c.before.before.well-formed.1.1.1.1.0))
+    invariant-loop decreases-loop (λ c. part-start K slab _ _ (good_length cell 8 c.before.before.args.xs _ c.before.before.well_formed.1.1.1.1.0))
     (λ c. search needs) (λ c. omega arith) (λ c. omega arith) (λ c κs. (search row-ready, omega arith)) (λ c. omega arith) (λ c. omega arith) (λ c. omega arith)
     (λ c. omega arith) loop-again (λ c. let l = c.before.loop in part_end K slab _ _ l.next l.t (omega arith) l.invariant))
