@@ -13,7 +13,7 @@ KINDS = real64 real32 complex
 
 # A part of the archive: the functions of one number kind, or those for cards, proved and built by itself.
 NAMES = $(KINDS) card
-PARTS = $(NAMES:%=target/staticlib/libcapi_%.a)
+PARTS = $(foreach k,$(NAMES),crates/capi_$(k)/out/libcapi_$(k).a)
 
 # From C and from Rust, through the proved functions of f64.
 demo: need-cc need-cargo $(firstword $(PARTS))
@@ -27,7 +27,7 @@ demo: need-cc need-cargo $(firstword $(PARTS))
 	@cd bindings/rust && ZB_ARCHIVE=$(abspath $(firstword $(PARTS))) cargo run --offline --quiet --example two_point
 
 # From C, a matrix onto a card in a file and back, through the proved functions for cards.
-CARD = target/staticlib/libcapi_card.a
+CARD = crates/capi_card/out/libcapi_card.a
 
 card-example: need-cc $(CARD)
 	@$(CC) -std=c11 -O1 -Wall -Wextra -Iinclude -o target/card demo/card.c $(CARD)
@@ -37,14 +37,13 @@ card-example: need-cc $(CARD)
 numbers: need-rt
 	@mkdir -p target
 	@echo "Proving the number kinds and building the program (a minute or two from nothing) .."
-	@scripts/prove target/numbers.log $(call used,worked_examples)
-	@target/bin/worked_examples
+	@scripts/prove check worked_examples target/numbers.log
+	@rt run worked_examples
 
 # rt ci comes last: its last line, 'N passed, M failed', is the verdict.
 test: need-rt
 	scripts/kinds --check
-	rt fmt --check
-	rt ci
+	scripts/gate
 
 # The texts of f32, and of complex numbers where they are the same, written from those of f64.
 kinds:
@@ -60,23 +59,18 @@ $(ARCHIVE): $(PARTS)
 	@printf 'create $@\n$(PARTS:%=addlib %\n)save\nend\n' | $(AR) -M
 
 # A crate and all that it uses, by crates.txt.
-used = $(shell awk -F: -v want=$(1) '{ uses[$$1] = $$2 } END { n = split(want, q, " "); for (i = 1; i <= n; i++) \
-	if (q[i] in uses && !seen[q[i]]++) { print q[i]; m = split(uses[q[i]], d, " "); \
+used = $(shell awk -F: -v want=$(1) '{ split($$1, n, " "); uses[n[1]] = $$2 } END { n = split(want, q, " "); \
+	for (i = 1; i <= n; i++) if (q[i] in uses && !seen[q[i]]++) { print q[i]; m = split(uses[q[i]], d, " "); \
 	for (k = 1; k <= m; k++) q[++n] = d[k] } }' crates.txt)
 
-# Built again when a crate that it uses has changed. Those under it are proved first, those of a level together; for the
-# whole archive, those under every part.
-$(ARCHIVE): MADE = $(NAMES)
-under = $(sort $(foreach k,$(1),$(filter-out capi_$(k),$(call used,capi_$(k)))))
-
+# Built again when a crate that it uses has changed. Those under it are proved first.
 .SECONDEXPANSION:
-$(PARTS): target/staticlib/libcapi_%.a: \
-		$$(shell find $$(addprefix crates/,$$(call used,capi_$$*)) -name '*.rt' -o -name '*.antt')
+$(PARTS): crates/%.a: $$(shell find $$(addprefix crates/,$$(call used,$$(firstword $$(subst /, ,$$*)))) -path '*/out' -prune \
+		-o -name '*.rt' -print -o -name '*.antt' -print)
 	@$(NEED_RT)
 	@mkdir -p target
-	@echo "Proving $(if $(filter $*,$(KINDS)),the kernels of $*,what reads and writes cards) and building $@" \
-		"(some minutes from nothing) .."
-	@RT_JOBS=5 scripts/prove --archive capi_$* target/capi_$*.log $(call under,$(or $(MADE),$*))
+	@echo "Proving and building $@ (some minutes from nothing) .."
+	@scripts/prove lib $(firstword $(subst /, ,$*)) target/$(firstword $(subst /, ,$*)).log
 	@touch $@
 
 # The header, the archive and the file for pkg-config, which names PREFIX; DESTDIR is where PREFIX stands for now.

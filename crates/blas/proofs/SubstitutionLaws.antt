@@ -11,7 +11,7 @@ use Rattle.view.specs.declared.View.{View}
 use Rattle.view.specs.declared.Side.{Side}
 use Rattle.view.specs.declared.Side.TheVariants.{Left, Right}
 use Rattle.view.specs.Checks.{order_of}
-use Rattle.view.proofs.AnyLaws.{none, clash}
+use Rattle.view.proofs.AnyLaws.{clash}
 use Rattle.blas.specs.Substitution.{in_order, least_solved, turn_of, line_of, first_at, minus_terms}
 use Rattle.blas.specs.Solves.{lines_of, minus_before}
 

@@ -8,7 +8,7 @@ use lib.Ieee.Fits.{neg-fits}
 use lib.IntN.{ℤ, neg_ℤ}
 use Rattle.number.specs.Kind.{Same, Holds, Finite, real64, zero_float, same_float, finite_float}
 use Rattle.number.specs.Integers.{float_of_integer}
-use Rattle.number.proofs.Same.{SameFloat, same→test, same_refl}
+use Rattle.number.proofs.Same.{same→test, same_refl}
 use Rattle.number.proofs.FloatArithmetic as FloatArithmetic
 use Rattle.number.proofs.FloatExact as FloatExact
 use Rattle.number.proofs.RealLaws.{same→float, float→same}

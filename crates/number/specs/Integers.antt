@@ -1,6 +1,6 @@
 -- Whole numbers as kinds: `integers` beside the real kinds and `gaussian` beside `complex`. Their operations are exact, so a routine's
 -- formula over one of them is the papers' formula over whole numbers. A quotient is cut toward zero. Their cells have any size, and no number of bytes.
-use Rattle.std.specs.Prelude.{ℕ, suc, ◌+◌, ◌*◌, ◌/◌, Bool, true, false, ◌&&◌, List, eqb, Float, ℤ, pos, negsuc, neg_ℤ, nat_abs, ◌+ℤ◌, ◌-ℤ◌, ◌*ℤ◌, length, get_or, set}
+use Rattle.std.specs.Prelude.{ℕ, suc, ◌+◌, ◌*◌, ◌/◌, Bool, true, false, ◌&&◌, eqb, Float, ℤ, pos, negsuc, neg_ℤ, nat_abs, ◌+ℤ◌, ◌-ℤ◌, ◌*ℤ◌, length, get_or, set}
 use Rattle.std.specs.Float.{fin}
 use Rattle.std.specs.Int.Signed.{quot_z}
 use Rattle.number.specs.Kind.{Kind}

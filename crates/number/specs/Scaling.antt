@@ -2,14 +2,10 @@
 use Rattle.std.specs.Prelude.{Bool, cond, Float}
 use Rattle.number.specs.Kind.{Kind, real64, real32, complex}
 use Rattle.number.specs.declared.Beta64.{Beta64}
-use Rattle.number.specs.declared.Beta64.TheVariants as Beta64
 use Rattle.number.specs.declared.Beta32.{Beta32}
-use Rattle.number.specs.declared.Beta32.TheVariants as Beta32
 use Rattle.number.specs.declared.Complex.{Complex}
 use Rattle.number.specs.declared.Multiplier.{Multiplier}
-use Rattle.number.specs.declared.Multiplier.TheVariants as Multiplier
 use Rattle.number.specs.declared.BetaComplex.{BetaComplex}
-use Rattle.number.specs.declared.BetaComplex.TheVariants as BetaComplex
 
 abbrev pub scaled : (K : Kind) → K.Elem → K.Elem → K.Elem
 scaled K beta x = cond (K.is_zero beta) K.zero (cond (K.is_one beta) x (K.mul beta x))

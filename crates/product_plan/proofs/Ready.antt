@@ -25,8 +25,6 @@ use Rattle.blas.specs.Herk.{herk_left, herk_right}
 use Rattle.product_plan.specs.declared.plan.Factors.{Factors}
 use Rattle.product_plan.specs.declared.plan.Plan.{Plan}
 use Rattle.product_plan.specs.declared.plan.Folded.{Folded}
-use Rattle.product_plan.specs.declared.plan.Turn.{Turn}
-use Rattle.product_plan.specs.declared.plan.Turn.TheVariants.{AtRow, PastRow, AtCol, PastCol}
 use Rattle.product_plan.specs.Plan.{terms_before, Reads, FactorsWithin, PlanReady, FoldedReads, FoldedReady, ByRow}
 use Rattle.product_plan.specs.Plans.{op_factors, left_factors, right_factors, row_turn, col_turn, is_upper, left_plan, right_plan, gemm_plan, gemv_plan, hemv_plan, syrk_plan, herk_plan, left_turn, right_turn, ReadySided}
 

@@ -1,5 +1,5 @@
 -- A named triangle as an upper one, of A or of its transpose, and A on the right as the transposed call, of numbers that are their own conjugates and whose product commutes.
-use Prim.Native.Nat.{ℕ, ◌≤◌, ◌<◌}
+use Prim.Native.Nat.{ℕ, ◌<◌}
 use mathlib.Core.Bool.{Bool, true, false, cond}
 use mathlib.Core.List.{List}
 use mathlib.Core.Path.{◌≡◌, refl, sym, ap, subst, ◌∙◌}
@@ -20,7 +20,7 @@ use Rattle.slabs.specs.Update.{everywhere, update}
 use Rattle.blas.specs.Matrix.{sum, accumulate}
 use Rattle.blas.proofs.OpLaws.{transposed-elem}
 use Rattle.product_plan.specs.declared.plan.Folded.{Folded}
-use Rattle.product_plan.specs.Plan.{folded_product, across, across_change, FoldedReady, AcrossReady, ByRow}
+use Rattle.product_plan.specs.Plan.{folded_product, across, across_change, AcrossReady}
 use Rattle.product_plan.specs.Plans.{left_plan, right_plan, upper_of, is_left, element_plan, sided_work, ReadySided}
 use Rattle.product_plan.proofs.Products.{named, left-product, right-product}
 

@@ -8,9 +8,7 @@ use Rattle.view.specs.Judge.{answer_number, is_done, refuse}
 use Rattle.view.specs.Checks.{read_check}
 use Rattle.slabs.specs.Elem.{elem}
 use Rattle.read_view.specs.declared.Found.{Found}
-use Rattle.read_view.specs.declared.Found.TheVariants as Found
 use Rattle.read_view.specs.declared.FoundComplex.{FoundComplex}
-use Rattle.read_view.specs.declared.FoundComplex.TheVariants as FoundComplex
 
 -- the view has an element (r, c)
 abbrev pub in_shape : View → ℕ → ℕ → Bool

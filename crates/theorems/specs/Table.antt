@@ -1,5 +1,5 @@
 -- Document 01's worked examples w1 to w14: a field each, under its number.
-use Rattle.std.specs.Prelude.{ℕ, false, List, [], ◌∷◌, map, ◌≡◌, Float, pos, negsuc}
+use Rattle.std.specs.Prelude.{ℕ, List, [], ◌∷◌, map, ◌≡◌, Float, pos, negsuc}
 use Rattle.std.specs.Float.{binary64, nan}
 use Rattle.std.specs.Float.Ieee.{neg, of_int}
 use Rattle.number.specs.Kind.{Kind, real64, complex}
