@@ -12,8 +12,8 @@ other (suc (suc (suc zero))) p q r s t = absurd (s refl)
 other (suc (suc (suc (suc zero)))) p q r s t = absurd (t refl)
 other (suc (suc (suc (suc (suc n))))) p q r s t = refl
 
-pub answer-of-spec : {M : Type 1} → statement M
+pub answer_of_spec : {M : Type 1} → statement M
 unfolding answer_of
-answer-of-spec = tie.close (tie.spec
-    (λ c. rw c.match.keys1) (λ c. rw c.match.keys2) (λ c. rw c.match.keys3) (λ c. rw c.match.keys4) (λ c. rw c.match.keys5)
-    (λ c. let r = c.match.rest in other c.before.args.n r.0.0.0.0.1 r.0.0.0.1 r.0.0.1 r.0.1 r.1))
+answer_of_spec = tie.close (tie.spec
+    (λ c. rw c.in-0.is) (λ c. rw c.in-1.is) (λ c. rw c.in-2.is) (λ c. rw c.in-3.is) (λ c. rw c.in-4.is)
+    (λ c. let r = c.in_default.in_default-own.rest in other c.args.n r.0.0.0.0.1 r.0.0.0.1 r.0.0.1 r.0.1 r.1))

@@ -1,5 +1,5 @@
 -- With lines it stops where k is below the rows, without lines never (Solve: stops; AnyLaws: and-no-left).
-use Rattle.triangle_plan.proofs.Words.{ℕ, ◌<◌, ◌≤◌, Bool, false, ◌&&◌, ◌≡◌, ap, sym, ◌∙◌, arith, lt-ltb, le-ltb, needs, ltb, and-no-left, System, stops}
+use Rattle.triangle_plan.proofs.Words.{ℕ, ◌<◌, ◌≤◌, Bool, false, ◌&&◌, ◌≡◌, ap, sym, ◌∙◌, arith, lt-ltb, le-ltb, rules, ltb, and-no-left, System, stops}
 use Rattle.triangle_plan.proofs.stops.Statement.{statement}
 use Rattle.triangle_plan.proofs.stops.Tie as tie
 
@@ -13,7 +13,7 @@ module _ (y : System) (k c : ℕ) (wide : c ≡ y.b.cols) where
   unfolding stops
   unlined h = sym (and-no-left (ltb 0 y.b.cols) (ltb k y.b.rows) (le-ltb 0 y.b.cols (omega arith)))
 
-pub stops-spec : {M : Type 1} → statement M
-stops-spec = tie.close (tie.spec
-    (λ c κs. search needs) (λ c κs. search needs) (λ c. lined _ _ _ c.before.before.cols.ensures _ c.rows.ensures c.before.if1.true)
-    (λ c. unlined _ _ _ c.before.cols.ensures c.if1.false))
+pub stops_spec : {M : Type 1} → statement M
+stops_spec = tie.close (tie.spec
+    (λ c κs. search rules) (λ c κs. search rules) (λ c. lined _ _ _ c.cols.ensures _ c.rows.ensures c.if-cols-gt0.true)
+    (λ c. unlined _ _ _ c.cols.ensures c.if-cols-gt0.false))

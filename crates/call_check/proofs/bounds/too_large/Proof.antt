@@ -3,8 +3,8 @@ use Rattle.call_check.proofs.Words.{lt-ltb, le-ltb, limit, too_large}
 use Rattle.call_check.proofs.bounds.too_large.Statement.{statement}
 use Rattle.call_check.proofs.bounds.too_large.Tie as tie
 
-pub too-large-spec : {M : Type 1} → statement M
+pub too_large_spec : {M : Type 1} → statement M
 unfolding too_large
-too-large-spec = tie.close (tie.spec
-    (λ c. rw (lt-ltb limit c.before.before.args.v.rows c.if1.true))
-    (λ c. rw (le-ltb limit c.before.before.before.args.v.rows c.before.if1.false)))
+too_large_spec = tie.close (tie.spec
+    (λ c. rw (lt-ltb limit c.args.v.rows c.if-v-gt-LIMIT.true))
+    (λ c. rw (le-ltb limit c.args.v.rows c.if-v-gt-LIMIT.false)))

@@ -3,10 +3,10 @@ use Rattle.call_check.proofs.Words.{◌≡◌, sym, ap, ◌∙◌, subst, true, 
 use Rattle.call_check.proofs.bounds.up_part.Statement.{statement}
 use Rattle.call_check.proofs.bounds.up_part.Tie as tie
 
-pub up-part-spec : {M : Type 1} → statement M
-up-part-spec = tie.close (tie.spec
-    (λ c. let back = to_z-of_z c.before.ranges.z in
+pub up_part_spec : {M : Type 1} → statement M
+up_part_spec = tie.close (tie.spec
+    (λ c. let back = to_z-of_z c.ranges.z in
     subst (λ (z : ℤ). T (non_neg z) × Fits w64 (nat_abs z)) (sym back)
-    (up-cast c.before.args.z c.before.ranges.z (subst (λ (z : ℤ). lt_z z (pos 0) ≡ false) back c.if1.false)))
-    (λ c. up-zero c.before.args.z (subst (λ (z : ℤ). lt_z z (pos 0) ≡ true) (to_z-of_z c.before.ranges.z) c.if1.true))
-    (λ c. let back = to_z-of_z c.before.ranges.z in ap nat_abs back ∙ up_is c.before.args.z (subst (λ (z : ℤ). lt_z z (pos 0) ≡ false) back c.if1.false)))
+    (up-cast c.args.z c.ranges.z (subst (λ (z : ℤ). lt_z z (pos 0) ≡ false) back c.if-z-lt0.false)))
+    (λ c. up-zero c.args.z (subst (λ (z : ℤ). lt_z z (pos 0) ≡ true) (to_z-of_z c.ranges.z) c.if-z-lt0.true))
+    (λ c. let back = to_z-of_z c.ranges.z in ap nat_abs back ∙ up_is c.args.z (subst (λ (z : ℤ). lt_z z (pos 0) ≡ false) back c.if-z-lt0.false)))

@@ -13,7 +13,7 @@ unfolding short
 natural (pos n) h = refl
 natural (negsuc n) h = absurd (clash refl h)
 
-pub short-spec : {M : Type 1} → statement M
-short-spec = tie.close (tie.spec
-    (λ c. up-cast _ (sfits_to_z (Fits-of_z c.before.ranges.z)) c.if1.false)
-    (λ c. negative _ c.if1.true ∙ ap short (to_z-of_z c.before.ranges.z)) (λ c. natural _ c.if1.false ∙ ap short (to_z-of_z c.before.ranges.z)))
+pub short_spec : {M : Type 1} → statement M
+short_spec = tie.close (tie.spec
+    (λ c. up-cast _ (sfits_to_z (Fits-of_z c.ranges.z)) c.if-z-lt0.false)
+    (λ c. negative _ c.if-z-lt0.true ∙ ap short (to_z-of_z c.ranges.z)) (λ c. natural _ c.if-z-lt0.false ∙ ap short (to_z-of_z c.ranges.z)))

@@ -1,5 +1,5 @@
 -- `stride_of` meets its contract: each way out is one of the definition's cases.
-use Rattle.call_check.proofs.Words.{◌≡◌, ◌∙◌, true, false, ℕ, arith, eqb, negsuc, to_z-of_z, eq-eqb, View, and_both, is_false, shaped, shaped-sizes, stride_of}
+use Rattle.call_check.proofs.Words.{◌≡◌, ◌∙◌, true, false, ℕ, arith, eqb, negsuc, to_z-of_z, w64, eq-eqb, View, and_both, is_false, shaped, shaped-sizes, stride_of}
 use Rattle.call_check.proofs.quick.stride_of.Statement.{statement}
 use Rattle.call_check.proofs.quick.stride_of.Tie as tie
 
@@ -21,10 +21,10 @@ neither : (v : View) (n : ℕ) → (v.rows ≡ n → v.cols ≡ 1 → ⊥) → (
 unfolding stride_of
 neither v n f g = rw (not-shaped v n 1 f, not-shaped v 1 n g)
 
-pub stride-of-spec : {M : Type 1} → statement M
-stride-of-spec = tie.close (tie.spec
-    (λ c. to_z-of_z (record { sfits = c.struct_told.given.1.1.1.0.1 }) ∙ column _ _ c.before.before.before.if1.true c.before.if2.true)
-    (λ c. neither _ _ (λ p q. c.if2.false p) (λ p q. c.if2.false (omega arith)))
-    (λ c. to_z-of_z (record { sfits = c.struct-told2.given.1.1.1.1.0.1 }) ∙ row _ _ c.before.before.before.before.before.if1.false c.before.before.before.if3.true c.before.if4.true)
-    (λ c. neither _ _ (λ p q. c.before.before.before.before.if1.false q) (λ p q. c.if4.false q))
-    (λ c. neither _ _ (λ p q. c.before.before.if1.false q) (λ p q. c.if3.false p)))
+pub stride_of_spec : {M : Type 1} → statement M
+stride_of_spec = tie.close (tie.spec
+    (λ c. to_z-of_z {w = w64} (record { sfits = c.struct_told-1.given.1.1.1.0.1 }) ∙ column _ _ c.if-v-eq1.true c.if-v-n.true)
+    (λ c. neither _ _ (λ p q. c.if-v-n.false p) (λ p q. c.if-v-n.false (omega arith)))
+    (λ c. to_z-of_z {w = w64} (record { sfits = c.struct_told-then-v-n-2-1.given.1.1.1.1.0.1 }) ∙ row _ _ c.if-v-eq1.false c.if-v-eq1-2.true c.if-v-n-2.true)
+    (λ c. neither _ _ (λ p q. c.if-v-eq1.false q) (λ p q. c.if-v-n-2.false q))
+    (λ c. neither _ _ (λ p q. c.if-v-eq1.false q) (λ p q. c.if-v-eq1-2.false p)))

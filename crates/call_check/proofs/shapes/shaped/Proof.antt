@@ -3,7 +3,7 @@ use Rattle.call_check.proofs.Words.{eq-eqb, ne_eqb}
 use Rattle.call_check.proofs.shapes.shaped.Statement.{statement}
 use Rattle.call_check.proofs.shapes.shaped.Tie as tie
 
-pub shaped-spec : {M : Type 1} → statement M
-shaped-spec = tie.close (tie.spec
-    (λ c. rw (eq-eqb c.before.before.before.args.v.rows c.before.before.before.args.m c.before.if1.true))
-    (λ c. rw (ne_eqb c.before.before.args.v.rows c.before.before.args.m c.if1.false)))
+pub shaped_spec : {M : Type 1} → statement M
+shaped_spec = tie.close (tie.spec
+    (λ c. rw (eq-eqb c.args.v.rows c.args.m c.if-v-m.true))
+    (λ c. rw (ne_eqb c.args.v.rows c.args.m c.if-v-m.false)))

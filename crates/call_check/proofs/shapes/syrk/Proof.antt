@@ -1,8 +1,8 @@
 -- `shapes::syrk` meets its contract, by those of its parts.
-use Rattle.call_check.proofs.Words.{needs, syrk_shape}
+use Rattle.call_check.proofs.Words.{rules, syrk_shape}
 use Rattle.call_check.proofs.shapes.syrk.Statement.{statement}
 use Rattle.call_check.proofs.shapes.syrk.Tie as tie
 
-pub syrk-spec : {M : Type 1} → statement M
+pub syrk_spec : {M : Type 1} → statement M
 unfolding syrk_shape
-syrk-spec = tie.close (tie.spec (λ c κs. search needs) (λ c κs. search needs) (λ c. rw (← c.before.op-rows.ensures) c.shaped.ensures))
+syrk_spec = tie.close (tie.spec (λ c κs. search rules) (λ c κs. search rules) (λ c. rw (← c.op_rows-n.ensures) c.shaped.ensures))

@@ -6,11 +6,11 @@ use Rattle.call_check.proofs.sharing.line_meets.Tie as tie
 one : (k : ℕ) → k < 1 → k * 0 ≡ 0
 one k h = let e : k ≡ 0 = omega arith in ap (λ (k : ℕ). k * 0) e
 
-pub line-meets-spec : {M : Type 1} → statement M
-line-meets-spec = tie.close (tie.spec
-    (λ c. let n = c.before.args.n in
-    let z = c.before.args.stride in
+pub line_meets_spec : {M : Type 1} → statement M
+line_meets_spec = tie.close (tie.spec
+    (λ c. let n = c.args.n in
+    let z = c.args.stride in
     both_ways (ltb 1 n) (meets 1 0 n z)
-    (λ t. meeting→meets 1 0 n z (record { k = 0; d = 1; k_lt = omega arith; d-lt = ltb-true 1 n t; some = omega arith; same = sym (one-mul z ∙ c.if1.true) }))
+    (λ t. meeting→meets 1 0 n z (record { k = 0; d = 1; k_lt = omega arith; d-lt = ltb-true 1 n t; some = omega arith; same = sym (one-mul z ∙ c.if-stride-eq0.true) }))
     (λ t. let m = meets→meeting 1 0 n z t in lt-ltb 1 n (omega (arith, m.k_lt, m.d-lt, m.some))))
-    (λ c. let z = c.before.args.stride in missing 1 0 c.before.args.n z (λ m. omega (arith, m.same, one m.k m.k_lt, mul-pos {m = m.d} {n = z} (omega (arith, m.k_lt, m.some)) (omega arith)))))
+    (λ c. let z = c.args.stride in missing 1 0 c.args.n z (λ m. omega (arith, m.same, one m.k m.k_lt, mul-pos {m = m.d} {n = z} (omega (arith, m.k_lt, m.some)) (omega arith)))))

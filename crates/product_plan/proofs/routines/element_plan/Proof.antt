@@ -3,21 +3,21 @@ use mathlib.Core.Bool.{false}
 use mathlib.Core.Path.{◌∙◌, ap}
 use Rattle.view.specs.declared.UpLo.TheVariants.{Upper}
 use Rattle.product_plan.specs.Plans.{left_plan}
-use Rattle.product_plan.proofs.Words.{ℕ, needs}
+use Rattle.product_plan.proofs.Words.{ℕ, rules}
 use Rattle.product_plan.proofs.routines.element_plan.Statement.{statement}
 use Rattle.product_plan.proofs.routines.element_plan.Tie as tie
 
-returns : tie.Need-returns
+returns : tie.Need-returns-in-Left
 returns c =
-    let p = c.before.before.before.before.args in
-    rw c.before.before.enum_told.given.1 (c.left-plan.ensures ∙ ap (λ (n : ℕ). left_plan false Upper p.u p.b n p.c) c.before.rows.ensures)
+    let p = c.args in
+    rw c.in-Left.is (c.left_plan.ensures ∙ ap (λ (n : ℕ). left_plan false Upper p.u p.b n p.c) c.rows.ensures)
 
-returns-2 : tie.Need-returns-2
+returns-2 : tie.Need-returns-in-Right
 returns-2 c =
-    let p = c.before.before.before.before.before.before.args in
-    rw c.before.before.before.before.enum-told2.given.1
-    (c.left-plan2.ensures ∙ (λ t. left_plan false Upper p.u (c.before.before.before.transposed.ensures t) (c.before.before.cols.ensures t) (c.before.transposed2.ensures t)))
+    let p = c.args in
+    rw c.in-Right.is
+    (c.left_plan-in-Right.ensures ∙ (λ t. left_plan false Upper p.u (c.transposed.ensures t) (c.cols.ensures t) (c.transposed-in-Right.ensures t)))
 
-pub element-plan-spec : {M : Type 1} → statement M
-element-plan-spec = tie.close (tie.spec
-    (λ c. search needs) (λ c κs. tt) (λ c κs. tt) (λ c. search needs) (λ c κs. tt) (λ c κs. tt) (λ c κs. tt) (λ c κs. tt) returns returns-2)
+pub element_plan_spec : {M : Type 1} → statement M
+element_plan_spec = tie.close (tie.spec
+    (λ c. search rules) (λ c κs. tt) (λ c κs. tt) (λ c. search rules) (λ c κs. tt) (λ c κs. tt) (λ c κs. tt) (λ c κs. tt) returns returns-2)

@@ -1,10 +1,10 @@
 -- The plan of A on the left of x as a column, conjugating (Plans: hemv_plan), put together from those of column and left_plan.
-use Rattle.product_plan.proofs.Words.{needs, ◌≡◌, sym, subst, true, ℕ, vector_of}
+use Rattle.product_plan.proofs.Words.{rules, ◌≡◌, sym, subst, true, ℕ, vector_of}
 use Rattle.product_plan.proofs.routines.hemv_plan.Statement.{statement}
 use Rattle.product_plan.proofs.routines.hemv_plan.Tie as tie
 
-pub hemv-plan-spec : {M : Type 1} → statement M
-hemv-plan-spec = tie.close (tie.spec
-    (λ c κs. search needs) (λ c κs. subst (λ (n : ℕ). vector_of c.before.args.x n ≡ true) (sym c.rows.ensures) c.before.requires.0)
-    (λ c κs. subst (λ (n : ℕ). vector_of c.before.before.args.y n ≡ true) (sym c.before.rows.ensures) c.before.before.requires.1)
-    (λ c κs. search needs) (λ c. rw (c.left-plan.ensures, c.before.column2.ensures, c.before.before.column.ensures, c.before.before.before.rows.ensures)))
+pub hemv_plan_spec : {M : Type 1} → statement M
+hemv_plan_spec = tie.close (tie.spec
+    (λ c κs. search rules) (λ c κs. subst (λ (n : ℕ). vector_of c.args.x n ≡ true) (sym c.rows-n.ensures) c.requires.0)
+    (λ c κs. subst (λ (n : ℕ). vector_of c.args.y n ≡ true) (sym c.rows-n.ensures) c.requires.1)
+    (λ c κs. search rules) (λ c. rw (c.left_plan.ensures, c.column-c.ensures, c.column-b.ensures, c.rows-n.ensures)))

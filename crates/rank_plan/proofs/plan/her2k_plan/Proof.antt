@@ -2,5 +2,5 @@
 use Rattle.rank_plan.proofs.plan.her2k_plan.Statement.{statement}
 use Rattle.rank_plan.proofs.plan.her2k_plan.Tie as tie
 
-pub her2k-plan-spec : {M : Type 1} → statement M
-her2k-plan-spec = tie.close (tie.spec (λ c κs. tt) (λ c κs. tt) (λ c. rw c.paired-plan.ensures (rw c.before.her-readings.ensures)))
+pub her2k_plan_spec : {M : Type 1} → statement M
+her2k_plan_spec = tie.close (tie.spec (λ c κs. tt) (λ c κs. tt) (λ c. rw c.paired_plan.ensures (rw c.her_readings.ensures)))

@@ -2,7 +2,7 @@
 use Rattle.rank_plan.proofs.plan.paired_plan.Statement.{statement}
 use Rattle.rank_plan.proofs.plan.paired_plan.Tie as tie
 
-pub paired-plan-spec : {M : Type 1} → statement M
-paired-plan-spec = tie.close (tie.spec
+pub paired_plan_spec : {M : Type 1} → statement M
+paired_plan_spec = tie.close (tie.spec
     (λ c κs. tt) (λ c κs. tt) (λ c κs. tt) (λ c κs. tt) (λ c κs. tt) (λ c κs. tt) (λ c κs. tt)
-    (λ c. rw (c.op-cols.ensures, c.before.conjugates2.ensures, c.before.before.conjugates.ensures, c.before.before.before.op-view4.ensures, c.before.before.before.before.op-view3.ensures, c.before.before.before.before.before.op-view2.ensures, c.before.before.before.before.before.before.op-view.ensures)))
+    (λ c. rw (c.op_cols-terms.ensures, c.conjugates-right_conj.ensures, c.conjugates-left_conj.ensures, c.op_view-right_a.ensures, c.op_view-left_b.ensures, c.op_view-right_b.ensures, c.op_view-left_a.ensures)))

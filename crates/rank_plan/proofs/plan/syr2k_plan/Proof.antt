@@ -2,5 +2,5 @@
 use Rattle.rank_plan.proofs.plan.syr2k_plan.Statement.{statement}
 use Rattle.rank_plan.proofs.plan.syr2k_plan.Tie as tie
 
-pub syr2k-plan-spec : {M : Type 1} → statement M
-syr2k-plan-spec = tie.close (tie.spec (λ c κs. tt) (λ c κs. tt) (λ c. rw c.paired-plan.ensures (rw c.before.syr-readings.ensures)))
+pub syr2k_plan_spec : {M : Type 1} → statement M
+syr2k_plan_spec = tie.close (tie.spec (λ c κs. tt) (λ c κs. tt) (λ c. rw c.paired_plan.ensures (rw c.syr_readings.ensures)))
