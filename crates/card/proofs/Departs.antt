@@ -9,7 +9,7 @@ use lib.Dec.{eqb}
 use lib.ListN.{get_or, get_or-eq_default}
 use native.Mathlib.Decide.{ℕ_discrete, dec_lt}
 use borrow.Author.Tests.{eq-eqb, ne_eqb, lt-ltb, le-ltb}
-use Rattle.view.proofs.AnyLaws.{found, finds, none, none-at, is_true, both_ways, clash}
+use Rattle.view.proofs.AnyLaws.{finds, none, none-at, is_true, both_ways, clash}
 use Rattle.encoding.specs.Little.{byte_of, little, half}
 use Rattle.encoding.proofs.LittleLaws.{byte_of-little, half-little}
 use Rattle.card.specs.declared.Header.{Header}

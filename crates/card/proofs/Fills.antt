@@ -14,7 +14,7 @@ use Rattle.encoding.specs.Little.{byte_of}
 use Rattle.encoding.specs.Stored.{stored}
 use Rattle.encoding.proofs.StoredLaws.{length-stored, stored-before, stored-in, stored_more, stored-part}
 use Rattle.card.specs.declared.Header.{Header}
-use Rattle.card.specs.Layout.{total, count, blocks, header_byte, data_byte, body_byte, block_byte, card_byte, patterns}
+use Rattle.card.specs.Layout.{total, count, header_byte, data_byte, body_byte, block_byte, card_byte, patterns}
 use Rattle.card.specs.Reading.{sum_of}
 use Rattle.card.specs.Writing.{number_byte, sealed}
 use Rattle.card.proofs.Sums.{total-cong}

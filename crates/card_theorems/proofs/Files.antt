@@ -11,7 +11,6 @@ use lib.Dec.{eqb, ltb}
 use lib.ListN.{length, get_or}
 use lib.Seq.{ext_get_or}
 use borrow.Author.Tests.{eq-eqb, le-ltb}
-use Rattle.view.specs.Any.{any}
 use Rattle.view.proofs.AnyLaws.{none, none-at, or-false-left, or-false-right, or-none}
 use Rattle.encoding.specs.Little.{byte_of, little}
 use Rattle.encoding.proofs.LittleLaws.{byte_of-little, little-byte_of, little-cong}

@@ -353,7 +353,7 @@ module _ (K : Kind) (L : Laws K) (Z : Zeros K) (n j : ℕ) where
   unit-count = L.slab.count-put (Z.slab n) j K.one ∙ Z.count n
 
   pub unit-held : Held K unit_slab
-  unit-held = L.slab.put_holds (Z.slab n) j K.one (Z.held n) L.one-Holds
+  unit-held = L.slab.put_holds (Z.slab n) j K.one (Z.held n) L.one_holds
 
   pub unit_size : n ≤ limit → K.bytes * length unit_slab < 2 ^ 63
   unit_size h = rw (L.slab.length-put (Z.slab n) j K.one) (Z.size n h)

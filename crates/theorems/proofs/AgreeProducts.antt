@@ -176,7 +176,7 @@ module _ {K : Kind} (L : Laws K) (Z : Zeros K) (f : Factors K) (Form : View → 
       beta = K.zero;
       rhs = lent K (unit_slab K L Z terms q) b.rhs;
       target = lent K (Z.slab b.m) b.target;
-      alpha-holds = L.one-Holds;
+      alpha-holds = L.one_holds;
       beta-holds = L.zero-holds;
       rhs-lendable = record { numbers = unit-held K L Z terms q; size = unit_size K L Z terms q b.rhs-fair.small; words = b.rhs-fair.words };
       target-lendable = record { numbers = Z.held b.m; size = Z.size b.m b.target-fair.small; words = b.target-fair.words };

@@ -68,7 +68,7 @@ module _ (K : Kind) (L : Laws K) where
       at (yes q) r =
           L.sub-cong (minus-zero x f from n v (λ p l m. e p l (omega arith) (omega arith))) (subst (λ (k : ℕ). Same K (f k) y) (sym q) h)
       at (no q) r =
-          L.same-trans (L.sub-cong (r (omega arith)) (e (from + n) (omega arith) (omega arith) q)) (L.sub-zero (L.sub-Holds x y))
+          L.same-trans (L.sub-cong (r (omega arith)) (e (from + n) (omega arith) (omega arith) q)) (L.sub-zero (L.sub_holds x y))
 
 -- ---- the unknowns solved before the one that is solved after k others
 
@@ -181,7 +181,7 @@ module _ (K : Kind) (side : Side) (uplo : UpLo) (t : Trans) (a : Matrix K) (j : 
 column-holds : (K : Kind) → Laws K → (side : Side) (uplo : UpLo) (t : Trans) (a : Matrix K) (j : ℕ) → ((i j : ℕ) → Holds K (a i j)) → (p : ℕ) →
     Holds K (column K side uplo t a j p)
 column-holds K L side uplo t a j h p =
-    by-column K side uplo t a j (Holds K) p L.one-Holds L.zero-holds (λ o m. coefficient-holds K L side t p j a h)
+    by-column K side uplo t a j (Holds K) p L.one_holds L.zero-holds (λ o m. coefficient-holds K L side t p j a h)
 
 -- ---- one line is solved unknown after unknown
 

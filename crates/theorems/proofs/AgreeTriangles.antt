@@ -86,7 +86,7 @@ module _ {K : Kind} (L : Laws K) (side : Side) (shapes : View → View → Bool)
           call = record {
             alpha = K.one;
             target = lent K t.slab (strip side v.rows);
-            alpha-holds = L.one-Holds;
+            alpha-holds = L.one_holds;
             target-lendable = record { numbers = t.numbers; size = t.size; words = fair.words };
           };
           each = (subst (Accepted (strip side v.rows)) (sym t.count) fair.accepted, tt);

@@ -107,13 +107,13 @@ pub coefficient-by : (K Z : Kind) (R : K.Elem → Z.Elem → Type 0) → ((x : K
     → (names : Mask) (n : ℕ) (side : Side) (t : Trans) (q p : ℕ) → q < n → p < n → names (row_in side t q p) (col_in side t q p) ≡ true
     → (a : Matrix K) (z : Matrix Z) → Below R names n n a z → R (coefficient K side t a q p) (coefficient Z side t z q p)
 coefficient-by K Z R turn names n side t q p hq hp m a z h =
-    shows-by R turn (λ K. coefficient K side t) q p _ _ (coefficient-shows side t q p) a z
+    shows-by {K = K} {Z = Z} R turn (λ K. coefficient K side t) q p _ _ (coefficient-shows side t q p) a z
     (h _ _ (in_both (λ i j. i < n) side t q p hq hp) (in_both (λ i j. j < n) side t q p hp hq) m)
 
 module _ (K : Kind) (L : Laws K) (side : Side) (t : Trans) (q p : ℕ) (a : Matrix K) where
   pub coefficient-holds : ((i j : ℕ) → Holds K (a i j)) → Holds K (coefficient K side t a q p)
   coefficient-holds h =
-      shows-by {Z = K} (λ x y. Holds K x) (λ x y. L.conj-holds) (λ K. coefficient K side t) q p _ _ (coefficient-shows side t q p) a a (h _ _)
+      shows-by {K = K} {Z = K} (λ x y. Holds K x) (λ x y. L.conj-holds) (λ K. coefficient K side t) q p _ _ (coefficient-shows side t q p) a a (h _ _)
 
   pub coefficient-finite : (names : Mask) (n : ℕ) → q < n → p < n → names (row_in side t q p) (col_in side t q p) ≡ true → Fit K names n n a
       → Finite K (coefficient K side t a q p)

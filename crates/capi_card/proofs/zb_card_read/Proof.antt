@@ -1,19 +1,19 @@
 -- The reader's answer and slab, and its header where the card is read.
-use Rattle.capi_card.proofs.Words.{needs, reads-done, reads-refused}
+use Rattle.capi_card.proofs.Words.{rules, reads-done, reads-refused}
 use Rattle.capi_card.proofs.zb_card_read.Statement.{statement}
 use Rattle.capi_card.proofs.zb_card_read.Tie as tie
 
-returns : tie.Need-returns
+returns : tie.Need-returns-then-done
 returns c =
-    let e = c.before.before.before.before.before.before.before.before.read.ensures in
-    reads-done _ _ _ _ _ _ _ _ _ e.0 e.1 c.before.before.before.before.done.ensures c.number.ensures c.before.before.before.if1.true
+    let e = c.read-r.ensures in
+    reads-done _ _ _ _ _ _ _ _ _ e.0 e.1 c.done.ensures c.number.ensures c.if-done.true
 
-returns-2 : tie.Need-returns-2
+returns-2 : tie.Need-returns-else-done
 returns-2 c =
-    let e = c.before.before.before.before.before.before.read.ensures in
-    reads-refused _ _ _ _ _ _ _ _ _ e.0 e.1 c.before.before.done.ensures c.number2.ensures c.before.if1.false
+    let e = c.read-r.ensures in
+    reads-refused _ _ _ _ _ _ _ _ _ e.0 e.1 c.done.ensures c.number-else-done.ensures c.if-done.false
 
-pub zb-card-read-spec : {M : Type 1} → statement M
-zb-card-read-spec = tie.close (tie.spec
-    (λ c κs. search needs) (λ c κs. search needs) (λ c. search needs) (λ c. search needs) (λ c κs. search needs) (λ c κs. search needs)
-    (λ c. search needs) returns (λ c. search needs) returns-2)
+pub zb_card_read_spec : {M : Type 1} → statement M
+zb_card_read_spec = tie.close (tie.spec
+    (λ c κs. search rules) (λ c κs. search rules) (λ c. search rules) (λ c. search rules) (λ c κs. search rules) (λ c κs. search rules)
+    (λ c. search rules) returns (λ c. search rules) returns-2)

@@ -1,10 +1,10 @@
 -- Each flag in its range, one after another.
-use Rattle.capi_flags.proofs.Words.{needs}
+use Rattle.capi_flags.proofs.Words.{rules}
 use Rattle.capi_flags.proofs.is_side_uplo_trans_diag.Statement.{statement}
 use Rattle.capi_flags.proofs.is_side_uplo_trans_diag.Tie as tie
 
-pub is-side-uplo-trans-diag-spec : {M : Type 1} → statement M
-is-side-uplo-trans-diag-spec = tie.close (tie.spec
-    (λ c κs. search needs) (λ c κs. search needs)
-    (λ c. simp (← c.before.before.is-side.ensures, c.before.if1.true) c.is-uplo-trans-diag.ensures)
-    (λ c. simp (← c.before.is-side.ensures, c.if1.false)))
+pub is_side_uplo_trans_diag_spec : {M : Type 1} → statement M
+is_side_uplo_trans_diag_spec = tie.close (tie.spec
+    (λ c κs. search rules) (λ c κs. search rules)
+    (λ c. simp (← c.is_side.ensures, c.if-is_side.true) c.is_uplo_trans_diag.ensures)
+    (λ c. simp (← c.is_side.ensures, c.if-is_side.false)))

@@ -3,6 +3,6 @@ use Rattle.capi_flags.proofs.Words.{trans_of, trans-else}
 use Rattle.capi_flags.proofs.trans_of.Statement.{statement}
 use Rattle.capi_flags.proofs.trans_of.Tie as tie
 
-pub trans-of-spec : {M : Type 1} → statement M
+pub trans_of_spec : {M : Type 1} → statement M
 unfolding trans_of
-trans-of-spec = tie.close (tie.spec (λ c. rw c.match.keys1) (λ c. rw c.match.keys2) (λ c. trans-else _ c.match.rest.0.1 c.match.rest.1))
+trans_of_spec = tie.close (tie.spec (λ c. rw c.in-0.is) (λ c. rw c.in-1.is) (λ c. trans-else _ c.in_default.in_default-own.rest.0.1 c.in_default.in_default-own.rest.1))

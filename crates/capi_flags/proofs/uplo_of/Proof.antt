@@ -3,6 +3,6 @@ use Rattle.capi_flags.proofs.Words.{up_lo_of, uplo-else}
 use Rattle.capi_flags.proofs.uplo_of.Statement.{statement}
 use Rattle.capi_flags.proofs.uplo_of.Tie as tie
 
-pub uplo-of-spec : {M : Type 1} → statement M
+pub uplo_of_spec : {M : Type 1} → statement M
 unfolding up_lo_of
-uplo-of-spec = tie.close (tie.spec (λ c. rw c.match.keys1) (λ c. uplo-else _ c.match.rest.1))
+uplo_of_spec = tie.close (tie.spec (λ c. rw c.in-0.is) (λ c. uplo-else _ c.in_default.in_default-own.rest.1))

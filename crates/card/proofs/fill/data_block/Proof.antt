@@ -1,9 +1,9 @@
 -- The numbers and k, then the sum.
-use Rattle.card.proofs.Words.{data-block-is, needs}
+use Rattle.card.proofs.Words.{data-block-is, rules}
 use Rattle.card.proofs.fill.data_block.Statement.{statement}
 use Rattle.card.proofs.fill.data_block.Tie as tie
 
-pub data-block-spec : {M : Type 1} → statement M
-data-block-spec = tie.close (tie.spec
-    (λ c κs. search needs) (λ c κs. search needs) (λ c κs. search needs) (λ c. search needs)
-    (λ c. data-block-is _ _ _ _ _ _ _ _ c.before.before.before.before.before.before.before.before.before.before.before.before.before.before.requires.1 c.before.before.before.before.before.before.before.before.before.before.before.before.before.before.requires.2 c.before.before.before.before.before.before.before.before.before.before.numbers.ensures c.before.before.before.before.before.before.put.ensures c.before.before.seal.ensures))
+pub data_block_spec : {M : Type 1} → statement M
+data_block_spec = tie.close (tie.spec
+    (λ c κs. search rules) (λ c κs. search rules) (λ c κs. search rules) (λ c. search rules)
+    (λ c. data-block-is _ _ _ _ _ _ _ _ c.requires.1 c.requires.2 c.numbers.ensures c.put.ensures c.seal.ensures))

@@ -1,34 +1,34 @@
 -- A slab or a buffer that is too short is refused; else the card stands at the buffer's front.
-use Rattle.card.proofs.Words.{arith, needs, small-blocks, write_done, write-short-buffer, write-short-slab}
+use Rattle.card.proofs.Words.{arith, rules, small-blocks, write_done, write-short-buffer, write-short-slab}
 use Rattle.card.proofs.writer.write_small.Statement.{statement}
 use Rattle.card.proofs.writer.write_small.Tie as tie
 
-mul-length : tie.Need-overflow-mul-length
+mul-length : tie.Need-overflow_mul-length
 mul-length c =
-    let p = c.before.before.before.requires in
-    record { fits = omega (arith, c.blocks2.ensures, small-blocks _ p.0 p.1 p.2) }
+    let p = c.requires in
+    record { fits = omega (arith, c.blocks-length.ensures, small-blocks _ p.0 p.1 p.2) }
 
-put-card-requires : tie.Need-put-card-requires
+put-card-requires : tie.Need-put_card-requires
 put-card-requires c κs =
-    let p = c.before.before.before.before.before.before.before.requires in
-    let e = c.before.before.before.before.blocks2.ensures in
-    (omega (arith, c.before.before.before.count.ensures.0), omega (arith, e), omega (arith, small-blocks _ p.0 p.1 p.2))
+    let p = c.requires in
+    let e = c.blocks-length.ensures in
+    (omega (arith, c.count.ensures.0), omega (arith, e), omega (arith, small-blocks _ p.0 p.1 p.2))
 
-returns : tie.Need-returns
+returns : tie.Need-returns-then-slab-count
 returns c =
-    let p = c.before.before.before.before.before.before.requires in
-    write-short-slab _ _ _ _ p.0 p.1 _ _ c.before.before.count.ensures.0 c.before.if1.true c.refused.ensures
+    let p = c.requires in
+    write-short-slab _ _ _ _ p.0 p.1 _ _ c.count.ensures.0 c.if-slab-count.true c.refused.ensures
 
-returns-2 : tie.Need-returns-2
+returns-2 : tie.Need-returns-then-card-length
 returns-2 c =
-    let p = c.before.before.before.before.before.before.before.requires in
-    write-short-buffer _ _ _ _ p.0 p.1 _ _ c.before.before.before.before.blocks2.ensures c.before.if2.true c.refused2.ensures
+    let p = c.requires in
+    write-short-buffer _ _ _ _ p.0 p.1 _ _ c.blocks-length.ensures c.if-card-length.true c.refused-then-card-length.ensures
 
-returns-3 : tie.Need-returns-3
+returns-3 : tie.Need-returns
 returns-3 c =
-    let p = c.before.before.before.before.before.before.before.before.before.before.requires in
-    write_done _ _ _ _ p.0 p.1 _ _ _ c.before.before.before.before.before.before.count.ensures.0 c.before.before.before.before.before.if1.false c.before.before.before.before.before.before.before.blocks2.ensures c.before.before.before.before.if2.false c.before.before.put-card.ensures
+    let p = c.requires in
+    write_done _ _ _ _ p.0 p.1 _ _ _ c.count.ensures.0 c.if-slab-count.false c.blocks-length.ensures c.if-card-length.false c.put_card.ensures
 
-pub write-small-spec : {M : Type 1} → statement M
-write-small-spec = tie.close (tie.spec
-    (λ c κs. search needs) mul-length (λ c κs. search needs) (λ c κs. search needs) returns (λ c κs. search needs) returns-2 put-card-requires (λ c. search needs) returns-3)
+pub write_small_spec : {M : Type 1} → statement M
+write_small_spec = tie.close (tie.spec
+    (λ c κs. search rules) mul-length (λ c κs. search rules) (λ c κs. search rules) returns (λ c κs. search rules) returns-2 put-card-requires (λ c. search rules) returns-3)
