@@ -1,9 +1,4 @@
--- Laws that several proofs of the crate cite: what an answer gives, and the walks over a read view, one for each shape of function.
+-- Laws that several proofs of the crate cite: what an answer gives; and what the definition of a read means.
 mod Answers
 mod Meaning
-mod Held
-mod Contracts
-mod Apart
-mod Through
-mod Sizes
 mod Words

@@ -1,17 +1,17 @@
 -- The kernel's outcome where the flags are in range, else the refusal (Laws: called, refused).
-use Rattle.capi_complex.proofs.Words.{needs, called, refused, view-is}
+use Rattle.capi_complex.proofs.Words.{rules, called, refused, view-is}
 use Rattle.capi_complex.proofs.zb_zgemm.Statement.{statement}
 use Rattle.capi_complex.proofs.zb_zgemm.Tie as tie
 
-pub zb-zgemm-spec : {M : Type 1} → statement M
-zb-zgemm-spec = tie.close (tie.spec
-    (λ c κs. tt) (λ c κs. tt) (λ c κs. tt) (λ c κs. tt) (λ c κs. tt) (λ c κs. tt) (λ c κs. tt) (λ c κs. tt) (λ c κs. tt) (λ c κs. tt) (λ c. search needs)
+pub zb_zgemm_spec : {M : Type 1} → statement M
+zb_zgemm_spec = tie.close (tie.spec
+    (λ c κs. tt) (λ c κs. tt) (λ c κs. tt) (λ c κs. tt) (λ c κs. tt) (λ c κs. tt) (λ c κs. tt) (λ c κs. tt) (λ c κs. tt) (λ c κs. tt) (λ c. search rules)
     (λ c. let g = c.before.before.before.before.before in let s = g.before.before in let v = s.before.before in
-    let f = v.before.before.before.before.before.before.ranges in let va = view-is f.ars f.acs v.before.before.view_of.ensures in
-    let vb = view-is f.brs f.bcs v.before.view-of2.ensures in let vc = view-is f.crs f.ccs v.view-of3.ensures in
-    called _ _ s.before.is-trans-trans.ensures s.if1.true
-    (rw (g.before.trans-of.ensures, g.trans-of2.ensures, va, vb, vc) at c.before.before.before.gemm.ensures) c.number.ensures)
-    (λ c. let s = c.before.before in let v = s.before.before in let f = v.before.before.before.before.before.before.ranges in
-    let va = view-is f.ars f.acs v.before.before.view_of.ensures in let vb = view-is f.brs f.bcs v.before.view-of2.ensures in
-    let vc = view-is f.crs f.ccs v.view-of3.ensures in refused _ s.before.is-trans-trans.ensures s.if1.false
-    (rw (va, vb, vc) at c.before.judge3.ensures) c.number2.ensures))
+    let f = v.ranges in let va = view-is f.ars f.acs v.view_of-va.ensures in
+    let vb = view-is f.brs f.bcs v.view_of-vb.ensures in let vc = view-is f.crs f.ccs v.view_of-vc.ensures in
+    called _ _ s.is_trans_trans.ensures s.if-is_trans_trans.true
+    (rw (g.trans_of.ensures, g.trans_of-then-is_trans_trans.ensures, va, vb, vc) at c.gemm.ensures) c.number.ensures)
+    (λ c. let s = c.before.before in let v = s.before.before in let f = v.ranges in
+    let va = view-is f.ars f.acs v.view_of-va.ensures in let vb = view-is f.brs f.bcs v.view_of-vb.ensures in
+    let vc = view-is f.crs f.ccs v.view_of-vc.ensures in refused _ s.is_trans_trans.ensures s.if-is_trans_trans.false
+    (rw (va, vb, vc) at c.judge3.ensures) c.number-else-is_trans_trans.ensures))

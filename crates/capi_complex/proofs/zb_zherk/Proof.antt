@@ -1,15 +1,15 @@
 -- The kernel's outcome where the flags are in range, else the refusal (Laws: called, refused).
-use Rattle.capi_complex.proofs.Words.{needs, called, refused, view-is}
+use Rattle.capi_complex.proofs.Words.{rules, called, refused, view-is}
 use Rattle.capi_complex.proofs.zb_zherk.Statement.{statement}
 use Rattle.capi_complex.proofs.zb_zherk.Tie as tie
 
-pub zb-zherk-spec : {M : Type 1} → statement M
-zb-zherk-spec = tie.close (tie.spec
-    (λ c κs. tt) (λ c κs. tt) (λ c κs. tt) (λ c κs. tt) (λ c κs. tt) (λ c κs. tt) (λ c κs. tt) (λ c κs. tt) (λ c κs. tt) (λ c. search needs)
+pub zb_zherk_spec : {M : Type 1} → statement M
+zb_zherk_spec = tie.close (tie.spec
+    (λ c κs. tt) (λ c κs. tt) (λ c κs. tt) (λ c κs. tt) (λ c κs. tt) (λ c κs. tt) (λ c κs. tt) (λ c κs. tt) (λ c κs. tt) (λ c. search rules)
     (λ c. let g = c.before.before.before.before.before in let s = g.before.before in let v = s.before.before in
-    let f = v.before.before.before.before.ranges in let va = view-is f.ars f.acs v.before.view_of.ensures in
-    let vc = view-is f.crs f.ccs v.view-of2.ensures in called _ _ s.before.is-uplo-trans.ensures s.if1.true
-    (rw (g.before.uplo-of.ensures, g.trans-of.ensures, va, vc) at c.before.before.before.herk.ensures) c.number.ensures)
-    (λ c. let s = c.before.before in let v = s.before.before in let f = v.before.before.before.before.ranges in
-    let va = view-is f.ars f.acs v.before.view_of.ensures in let vc = view-is f.crs f.ccs v.view-of2.ensures in
-    refused _ s.before.is-uplo-trans.ensures s.if1.false (rw (va, vc) at c.before.judge2.ensures) c.number2.ensures))
+    let f = v.ranges in let va = view-is f.ars f.acs v.view_of-va.ensures in
+    let vc = view-is f.crs f.ccs v.view_of-vc.ensures in called _ _ s.is_uplo_trans.ensures s.if-is_uplo_trans.true
+    (rw (g.uplo_of.ensures, g.trans_of.ensures, va, vc) at c.herk.ensures) c.number.ensures)
+    (λ c. let s = c.before.before in let v = s.before.before in let f = v.ranges in
+    let va = view-is f.ars f.acs v.view_of-va.ensures in let vc = view-is f.crs f.ccs v.view_of-vc.ensures in
+    refused _ s.is_uplo_trans.ensures s.if-is_uplo_trans.false (rw (va, vc) at c.judge2.ensures) c.number-else-is_uplo_trans.ensures))

@@ -1,17 +1,17 @@
 -- The kernel's outcome where the flags are in range, else the refusal (Laws: called, refused).
-use Rattle.capi_complex.proofs.Words.{needs, called, refused, view-is}
+use Rattle.capi_complex.proofs.Words.{rules, called, refused, view-is}
 use Rattle.capi_complex.proofs.zb_ztrsm.Statement.{statement}
 use Rattle.capi_complex.proofs.zb_ztrsm.Tie as tie
 
-pub zb-ztrsm-spec : {M : Type 1} → statement M
-zb-ztrsm-spec = tie.close (tie.spec
+pub zb_ztrsm_spec : {M : Type 1} → statement M
+zb_ztrsm_spec = tie.close (tie.spec
     (λ c κs. tt) (λ c κs. tt) (λ c κs. tt) (λ c κs. tt) (λ c κs. tt) (λ c κs. tt) (λ c κs. tt) (λ c κs. tt) (λ c κs. tt) (λ c κs. tt) (λ c κs. tt)
-    (λ c. search needs)
+    (λ c. search rules)
     (λ c. let g = c.before.before.before.before.before in let s = g.before.before.before.before in let v = s.before.before in
-    let f = v.before.before.before.before.ranges in let va = view-is f.ars f.acs v.before.view_of.ensures in
-    let vb = view-is f.brs f.bcs v.view-of2.ensures in called _ _ s.before.is-side-uplo-trans-diag.ensures s.if1.true
-    (rw (g.before.before.before.side-of.ensures, g.before.before.uplo-of.ensures, g.before.trans-of.ensures, g.diag-of.ensures, va, vb) at c.before.before.before.trsm.ensures)
+    let f = v.ranges in let va = view-is f.ars f.acs v.view_of-va.ensures in
+    let vb = view-is f.brs f.bcs v.view_of-vb.ensures in called _ _ s.is_side_uplo_trans_diag.ensures s.if-is_side_uplo_trans_diag.true
+    (rw (g.side_of.ensures, g.uplo_of.ensures, g.trans_of.ensures, g.diag_of.ensures, va, vb) at c.trsm.ensures)
     c.number.ensures)
-    (λ c. let s = c.before.before in let v = s.before.before in let f = v.before.before.before.before.ranges in
-    let va = view-is f.ars f.acs v.before.view_of.ensures in let vb = view-is f.brs f.bcs v.view-of2.ensures in
-    refused _ s.before.is-side-uplo-trans-diag.ensures s.if1.false (rw (va, vb) at c.before.judge2.ensures) c.number2.ensures))
+    (λ c. let s = c.before.before in let v = s.before.before in let f = v.ranges in
+    let va = view-is f.ars f.acs v.view_of-va.ensures in let vb = view-is f.brs f.bcs v.view_of-vb.ensures in
+    refused _ s.is_side_uplo_trans_diag.ensures s.if-is_side_uplo_trans_diag.false (rw (va, vb) at c.judge2.ensures) c.number-else-is_side_uplo_trans_diag.ensures))

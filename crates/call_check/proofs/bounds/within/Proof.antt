@@ -9,8 +9,8 @@ first : (c : tie.Joined-a-ne0) → c.args.a * c.args.x ≤ c.args.room
 first c =
     let a = c.args in
     elim c.if-a-ne0.branch [
-        then-a-ne0+else-room-a w ↦ quotient-above a.room a.a a.x w.if-room-a.false
-        | else-a-ne0 w ↦ omega (arith, ap (λ (n : ℕ). n * a.x) w.if-a-ne0.false, zero-mul a.x)
+      | then-a-ne0+else-room-a w ↦ quotient-above a.room a.a a.x w.if-room-a.false
+      | else-a-ne0 w ↦ omega (arith, ap (λ (n : ℕ). n * a.x) w.if-a-ne0.false, zero-mul a.x)
     ]
 
 pub within_spec : {M : Type 1} → statement M

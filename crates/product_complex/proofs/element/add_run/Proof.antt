@@ -1,15 +1,15 @@
 -- The sum is the run so far; each turn adds one term (Sums: term-next, plus-end).
-use Rattle.product_complex.proofs.Words.{needs, ◌≤◌, ◌-◌, ◌≡◌, arith, plus_terms, term, plus-start, plus-end, term-next, K}
+use Rattle.product_complex.proofs.Words.{rules, ◌≤◌, ◌-◌, ◌≡◌, arith, plus_terms, term, plus-start, plus-end, term-next, K}
 use Rattle.product_complex.proofs.element.add_run.Statement.{statement}
 use Rattle.product_complex.proofs.element.add_run.Tie as tie
 
-abbrev invariant-loop : tie.invariant-loop
+abbrev invariant-loop : tie.invariant-loop-p
 invariant-loop f a b i j from end total₀ p₀ total p = (from ≤ p) × (p ≤ end) × (total ≡ plus_terms K total₀ (term K f a b i j) from (p - from))
 
-pub add-run-spec : {M : Type 1} → statement M
-add-run-spec = tie.close (tie.spec
-    invariant-loop (λ f a b i j from end total₀ p₀ total p. end - p) (λ c. (omega arith, search needs, plus-start K _ _ _))
-    (λ c κs. c.before.before.before.before.requires.left _ (omega arith)) (λ c κs. c.before.before.before.before.before.requires.right _ (omega arith))
+pub add_run_spec : {M : Type 1} → statement M
+add_run_spec = tie.close (tie.spec
+    invariant-loop (λ f a b i j from end total₀ p₀ total p. end - p) (λ c. (omega arith, search rules, plus-start K _ _ _))
+    (λ c κs. c.requires.left _ (omega arith)) (λ c κs. c.requires.right _ (omega arith))
     (λ c κs. tt) (λ c κs. tt) (λ c. omega arith) (λ c. omega arith)
     (λ c. (omega arith, omega arith, search (term-next K)))
     (λ c. search (plus-end K)))

@@ -1,15 +1,15 @@
 -- The triangle is matched, and its loop runs the plan of A on the left (Plans: left_plan), which is the work of that side.
-use Rattle.product_complex.proofs.Words.{needs}
+use Rattle.product_complex.proofs.Words.{rules}
 use Rattle.product_complex.proofs.hemm.hemm_left.Statement.{statement}
 use Rattle.product_complex.proofs.hemm.hemm_left.Tie as tie
 
-pub hemm-left-spec : {M : Type 1} → statement M
-hemm-left-spec = tie.close (tie.spec
-    (λ c. search needs) (λ c κs. tt) (λ c κs. tt)
-    (λ c κs. rw (c.before.left-plan.ensures, c.before.before.rows.ensures) (rw c.before.before.before.enum_told.given.1 at c.before.before.before.before.before.before.before.before.requires))
-    (λ c. search needs) (λ c κs. tt) (λ c κs. tt)
-    (λ c κs. rw (c.before.left-plan2.ensures, c.before.before.rows2.ensures) (rw c.before.before.before.enum-told2.given.1 at c.before.before.before.before.before.before.before.before.requires))
-    (λ c. search needs)
-    (λ c. rw c.before.before.before.before.before.before.enum_told.given.1 (rw (c.before.before.before.before.left-plan.ensures, c.before.before.before.before.before.rows.ensures) at c.before.before.run-hemm-upper.ensures))
-    (λ c. search needs)
-    (λ c. rw c.before.before.before.before.before.before.enum-told2.given.1 (rw (c.before.before.before.before.left-plan2.ensures, c.before.before.before.before.before.rows2.ensures) at c.before.before.run-hemm-lower.ensures)))
+pub hemm_left_spec : {M : Type 1} → statement M
+hemm_left_spec = tie.close (tie.spec
+    (λ c. search rules) (λ c κs. tt) (λ c κs. tt)
+    (λ c κs. rw (c.left_plan.ensures, c.rows.ensures) (rw c.in-Upper.is at c.requires))
+    (λ c. search rules) (λ c κs. tt) (λ c κs. tt)
+    (λ c κs. rw (c.left_plan-in-Lower.ensures, c.rows-in-Lower.ensures) (rw c.in-Lower.is at c.requires))
+    (λ c. search rules)
+    (λ c. rw c.in-Upper.is (rw (c.left_plan.ensures, c.rows.ensures) at c.run_hemm_upper.ensures))
+    (λ c. search rules)
+    (λ c. rw c.in-Lower.is (rw (c.left_plan-in-Lower.ensures, c.rows-in-Lower.ensures) at c.run_hemm_lower.ensures)))

@@ -1,12 +1,12 @@
 -- The side is matched: symm_left, or the loop of the plan of A on the right (Plans: right_plan).
-use Rattle.product_complex.proofs.Words.{needs}
+use Rattle.product_complex.proofs.Words.{rules}
 use Rattle.product_complex.proofs.symm.symm_sided.Statement.{statement}
 use Rattle.product_complex.proofs.symm.symm_sided.Tie as tie
 
-pub symm-sided-spec : {M : Type 1} → statement M
-symm-sided-spec = tie.close (tie.spec
-    (λ c. search needs) (λ c κs. rw c.before.enum_told.given.1 at c.before.before.before.before.before.before.requires) (λ c. search needs)
+pub symm_sided_spec : {M : Type 1} → statement M
+symm_sided_spec = tie.close (tie.spec
+    (λ c. search rules) (λ c κs. rw c.in-Left.is at c.requires) (λ c. search rules)
     (λ c κs. tt) (λ c κs. tt)
-    (λ c κs. rw (c.before.right-plan.ensures, c.before.before.cols.ensures) (rw c.before.before.before.enum-told2.given.1 at c.before.before.before.before.before.before.before.before.requires))
-    (λ c. search needs) (λ c. rw c.before.before.before.before.enum_told.given.1 c.before.before.symm-left.ensures) (λ c. search needs)
-    (λ c. rw c.before.before.before.before.before.before.enum-told2.given.1 (rw (c.before.before.before.before.right-plan.ensures, c.before.before.before.before.before.cols.ensures) at c.before.before.run-symm-right.ensures)))
+    (λ c κs. rw (c.right_plan.ensures, c.cols.ensures) (rw c.in-Right.is at c.requires))
+    (λ c. search rules) (λ c. rw c.in-Left.is c.symm_left.ensures) (λ c. search rules)
+    (λ c. rw c.in-Right.is (rw (c.right_plan.ensures, c.cols.ensures) at c.run_symm_right.ensures)))

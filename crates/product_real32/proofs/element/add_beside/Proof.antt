@@ -1,30 +1,30 @@
 -- Each turn adds a term to each of the eight sums, from places side by side (Eights: beside-next, eight-end).
-use Rattle.product_real32.proofs.Words.{◌≤◌, ◌+◌, ◌-◌, refl, arith, now, good_length, cell, Eight, plus_terms, shown, inside, beside, term, eight-start, beside-next, eight-end, self-conjugate, K}
+use Rattle.product_real32.proofs.Words.{◌≤◌, ◌+◌, ◌-◌, refl, arith, good_length, cell, Eight, plus_terms, shown, inside, beside, term, eight-start, beside-next, eight-end, self-conjugate, K}
 use Rattle.product_real32.proofs.element.add_beside.Statement.{statement}
 use Rattle.product_real32.proofs.element.add_beside.Tie as tie
 
-abbrev invariant-loop : tie.invariant-loop
+abbrev invariant-loop : tie.invariant-loop-p
 invariant-loop f a b i j from end totals₀ p₀ totals p = (from ≤ p) × (p ≤ end) × Eight K totals (λ t. plus_terms K (K.at totals₀ t) (term K f a b i (j + t)) from (p - from))
 
-abbrev decreases-loop : tie.decreases-loop
+abbrev decreases-loop : tie.decreases-loop-p
 decreases-loop f a b i j from end totals₀ p₀ totals p = end - p
 
-loop-again : tie.Need-loop-preserved invariant-loop decreases-loop
+loop-again : tie.Need-loop-p-preserved invariant-loop decreases-loop
 loop-again c =
-    let p = c.before.before.before.before.before.before.before.args in
-    let l = c.before.before.before.before.loop in
-    let r = c.before.before.before.before.before.before.before.requires in
-    (omega arith, omega arith, beside-next K self-conjugate p.f (now p.a) (now p.b) p.i p.j _ _ _ l.totals _ _ _ _ r.1 (r.0.right l.p (omega arith)) c.before.place.ensures l.invariant.0 l.invariant.2 c.before.before.elem.ensures c.plus-beside.ensures)
+    let p = c.args in
+    let l = c.loop-p in
+    let r = c.requires in
+    (omega arith, omega arith, beside-next K self-conjugate p.f p.a.now p.b.now p.i p.j _ _ _ l.totals _ _ _ _ r.1 (r.0.right l.p (omega arith)) c.place.ensures l.invariant.0 l.invariant.2 c.elem.ensures c.plus_beside-next.ensures)
 
-pub add-beside-spec : {M : Type 1} → statement M
-add-beside-spec = tie.close (tie.spec
+pub add_beside_spec : {M : Type 1} → statement M
+add_beside_spec = tie.close (tie.spec
     invariant-loop decreases-loop
     (λ c. let s = c.before.before in
     (omega arith, s.requires.0.ordered, eight-start K _ _ _ _ (record { count = good_length cell 8 s.args.sums _ s.well_formed.1.1.1.1.1.1.1.0; sum = λ t l. refl })))
-    (λ c κs. c.before.before.before.before.requires.0.left _ (omega arith))
-    (λ c κs. let h = c.before.before.before.before.before.requires.0.right c.before.before.loop.p (omega arith) in
+    (λ c κs. c.requires.0.left _ (omega arith))
+    (λ c κs. let h = c.requires.0.right c.loop-p.p (omega arith) in
     shown _ _ _ _ (record { fits = h.fits; row = h.row; col = omega (arith, h.col) }) (omega arith))
-    (λ c κs. let r = c.before.before.before.before.before.before.requires in
-    let h = r.0.right c.before.before.before.loop.p (omega arith) in
+    (λ c κs. let r = c.requires in
+    let h = r.0.right c.loop-p.p (omega arith) in
     omega (arith, inside _ _ _ _ h _ refl, beside _ _ _ _ 7 r.1 h, c.place.ensures))
-    (λ c. omega arith) (λ c. omega arith) loop-again (λ c. eight-end K _ _ _ _ _ _ c.before.loop.invariant.1 (omega arith) c.before.loop.invariant.2))
+    (λ c. omega arith) (λ c. omega arith) loop-again (λ c. eight-end K _ _ _ _ _ _ c.loop-p.invariant.1 (omega arith) c.loop-p.invariant.2))

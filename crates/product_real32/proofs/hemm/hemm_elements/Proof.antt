@@ -1,16 +1,16 @@
 -- Row after row of the fold (LoopLaws: rows_next, rows_last).
-use Rattle.product_real32.proofs.Words.{needs, rows-begun, ◌≤◌, ◌-◌, ◌≡◌, refl, arith, length, everywhere, update_rows, rows_next, rows_last, across_change, across-kept, K, scale_by, value}
+use Rattle.product_real32.proofs.Words.{rules, rows-begun, ◌≤◌, ◌-◌, ◌≡◌, refl, arith, length, everywhere, update_rows, rows_next, rows_last, across_change, across-kept, K, scale_by, value}
 use Rattle.product_real32.proofs.hemm.hemm_elements.Statement.{statement}
 use Rattle.product_real32.proofs.hemm.hemm_elements.Tie as tie
 
-abbrev invariant-loop : tie.invariant-loop
+abbrev invariant-loop : tie.invariant-loop-i
 invariant-loop straight plan a b alpha beta c₀ vc m i₀ c i = (i ≤ m) × (length c ≡ length c₀) × (c ≡ update_rows K vc everywhere (across_change K straight plan (scale_by beta) (K.mul (value alpha)) a b) i c₀)
 
-pub hemm-elements-spec : {M : Type 1} → statement M
-hemm-elements-spec = tie.close (tie.spec
+pub hemm_elements_spec : {M : Type 1} → statement M
+hemm_elements_spec = tie.close (tie.spec
     invariant-loop (λ straight plan a b alpha beta c₀ vc m i₀ c i. m - i) (λ c κs. tt) (λ c. (omega arith, refl, rows-begun _ _ _ _ _))
-    (λ c κs. (search across-kept, search needs))
+    (λ c κs. (search across-kept, search rules))
     (λ c. omega arith) (λ c. omega arith)
     (λ c. (omega arith, omega arith, search (rows_next K)))
-    (λ c. search needs)
+    (λ c. search rules)
     (λ c. search (rows_last K)))

@@ -1,10 +1,10 @@
 -- Eight sums, and part of the eight elements settled with them (Eights: block_settled).
-use Rattle.product_real32.proofs.Words.{needs, block_settled, K}
+use Rattle.product_real32.proofs.Words.{rules, block_settled, K}
 use Rattle.product_real32.proofs.left.left_block.Statement.{statement}
 use Rattle.product_real32.proofs.left.left_block.Tie as tie
 
-pub left-block-spec : {M : Type 1} → statement M
-left-block-spec = tie.close (tie.spec
-    (λ c κs. (search needs, search needs, search needs, search needs, search needs))
-    (λ c κs. (search needs, search needs, search needs)) (λ c. search needs)
+pub left_block_spec : {M : Type 1} → statement M
+left_block_spec = tie.close (tie.spec
+    (λ c κs. (search rules, search rules, search rules, search rules, search rules))
+    (λ c κs. (search rules, search rules, search rules)) (λ c. search rules)
     (λ c. search (block_settled K)))

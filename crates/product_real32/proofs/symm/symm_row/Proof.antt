@@ -1,16 +1,16 @@
 -- Element after element of the row (LoopLaws: put_next, row_last).
-use Rattle.product_real32.proofs.Words.{needs, row-begun, ◌≤◌, ◌-◌, ◌≡◌, refl, arith, length, everywhere, update_row, row_last, put_next, across_change, across-kept, K, scale_by, value}
+use Rattle.product_real32.proofs.Words.{rules, row-begun, ◌≤◌, ◌-◌, ◌≡◌, refl, arith, length, everywhere, update_row, row_last, put_next, across_change, across-kept, K, scale_by, value}
 use Rattle.product_real32.proofs.symm.symm_row.Statement.{statement}
 use Rattle.product_real32.proofs.symm.symm_row.Tie as tie
 
-abbrev invariant-loop : tie.invariant-loop
+abbrev invariant-loop : tie.invariant-loop-j
 invariant-loop straight plan a b alpha beta c₀ vc i n j₀ c j = (j ≤ n) × (length c ≡ length c₀) × (c ≡ update_row K vc everywhere (across_change K straight plan (scale_by beta) (K.mul (value alpha)) a b) i j c₀)
 
-pub symm-row-spec : {M : Type 1} → statement M
-symm-row-spec = tie.close (tie.spec
+pub symm_row_spec : {M : Type 1} → statement M
+symm_row_spec = tie.close (tie.spec
     invariant-loop (λ straight plan a b alpha beta c₀ vc i n j₀ c j. n - j) (λ c κs. tt) (λ c. (omega arith, refl, row-begun _ _ _ _ _ _))
-    (λ c κs. (search across-kept, search needs, search needs))
+    (λ c κs. (search across-kept, search rules, search rules))
     (λ c. omega arith) (λ c. omega arith)
     (λ c. (omega arith, omega arith, search (put_next K)))
-    (λ c. search needs)
+    (λ c. search rules)
     (λ c. search (row_last K)))

@@ -1,31 +1,31 @@
 -- The upper triangle is read, of A or of its transpose: eight columns at a time, or element by element (Upper: upper-done, across-done).
-use Rattle.product_real32.proofs.Words.{false, arith, now, needs, upper-ready, upper-done, across-ready, across-done, commutes, self-conjugate, K, scale_by, value}
+use Rattle.product_real32.proofs.Words.{false, arith, rules, upper-ready, upper-done, across-ready, across-done, commutes, self-conjugate, K, scale_by, value}
 use Rattle.product_real32.proofs.symm.symm_sided.Statement.{statement}
 use Rattle.product_real32.proofs.symm.symm_sided.Tie as tie
 
-run-wide-requires : tie.Need-run-wide-requires
+run-wide-requires : tie.Need-run_wide-requires
 run-wide-requires c κs =
     let p = c.before.before.before.before.before.before.before in
-    (upper-ready p.args.side false p.args.uplo p.args.va _ _ _ _ _ _ c.before.before.before.upper-view.ensures p.requires, omega (arith, c.before.before.cols.ensures))
+    (upper-ready p.args.side false p.args.uplo p.args.va _ _ _ _ _ _ c.upper_view-u.ensures p.requires, omega (arith, c.cols.ensures))
 
-symm-elements-requires : tie.Need-symm-elements-requires
+symm-elements-requires : tie.Need-symm_elements-requires
 symm-elements-requires c κs =
     let p = c.before.before.before.before.before.before.before.before.before in
-    across-ready p.args.side c.before.before.before.before.before.upper-view.result _ _ _ _ _ _ _ c.before.is-left.ensures c.before.before.element-plan.ensures
-    (upper-ready p.args.side false p.args.uplo p.args.va _ _ _ _ _ _ c.before.before.before.before.before.upper-view.ensures p.requires)
+    across-ready p.args.side c.upper_view-u.result _ _ _ _ _ _ _ c.is_left.ensures c.element_plan-plan.ensures
+    (upper-ready p.args.side false p.args.uplo p.args.va _ _ _ _ _ _ c.upper_view-u.ensures p.requires)
 
-returns : tie.Need-returns
+returns : tie.Need-returns-then-cols-ge8
 returns c =
-    let p = c.before.before.before.before.before.before.before.before.before.before.args in
-    upper-done K self-conjugate false p.uplo p.va p.vb p.vc (scale_by p.beta) (K.mul (value p.alpha)) (now p.a) (now p.b) (now p.c) p.side _ _ c.before.before.before.before.before.before.upper-view.ensures c.before.before.run-wide.ensures
+    let p = c.args in
+    upper-done K self-conjugate false p.uplo p.va p.vb p.vc (scale_by p.beta) (K.mul (value p.alpha)) p.a.now p.b.now p.c.now p.side _ _ c.upper_view-u.ensures c.run_wide.ensures
 
-returns-2 : tie.Need-returns-2
+returns-2 : tie.Need-returns-else-cols-ge8
 returns-2 c =
-    let p = c.before.before.before.before.before.before.before.before.before.before.before.before.args in
-    upper-done K self-conjugate false p.uplo p.va p.vb p.vc (scale_by p.beta) (K.mul (value p.alpha)) (now p.a) (now p.b) (now p.c) p.side _ _ c.before.before.before.before.before.before.before.before.upper-view.ensures
-    (across-done K commutes _ p.vb p.vc (scale_by p.beta) (K.mul (value p.alpha)) (now p.a) (now p.b) (now p.c) p.side _ _ _ c.before.before.before.before.is-left.ensures c.before.before.before.before.before.element-plan.ensures c.before.before.symm-elements.ensures)
+    let p = c.args in
+    upper-done K self-conjugate false p.uplo p.va p.vb p.vc (scale_by p.beta) (K.mul (value p.alpha)) p.a.now p.b.now p.c.now p.side _ _ c.upper_view-u.ensures
+    (across-done K commutes _ p.vb p.vc (scale_by p.beta) (K.mul (value p.alpha)) p.a.now p.b.now p.c.now p.side _ _ _ c.is_left.ensures c.element_plan-plan.ensures c.symm_elements.ensures)
 
-pub symm-sided-spec : {M : Type 1} → statement M
-symm-sided-spec = tie.close (tie.spec
+pub symm_sided_spec : {M : Type 1} → statement M
+symm_sided_spec = tie.close (tie.spec
     (λ c κs. tt) (λ c κs. tt) run-wide-requires (λ c κs. tt) (λ c κs. tt) symm-elements-requires
-    (λ c. search needs) returns (λ c. search needs) returns-2)
+    (λ c. search rules) returns (λ c. search rules) returns-2)

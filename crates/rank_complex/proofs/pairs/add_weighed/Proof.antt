@@ -4,9 +4,9 @@ use Rattle.rank_complex.proofs.pairs.add_weighed.Statement.{statement}
 use Rattle.rank_complex.proofs.pairs.add_weighed.Tie as tie
 
 returns : tie.Need-returns
-returns c = let p = c.before.before.before.before.before.before.before.before.before.before.before.before.before.args in twice K _ _ _ _ _ _ _ _ _ (more K _ _ _ _ _ _ _ (c.before.before.before.before.before.before.before.before.before.mul.ensures ∙ ap (K.mul (value p.alpha)) c.before.before.before.before.before.before.before.before.before.before.elem-conj.ensures) c.before.before.before.before.before.elem-conj3.ensures c.before.before.before.before.mul3.ensures c.before.add.ensures) (c.before.before.before.before.before.before.mul2.ensures ∙ (λ t. K.mul (c.before.before.before.before.before.before.before.before.conj.ensures t) (c.before.before.before.before.before.before.before.elem-conj2.ensures t))) c.before.before.before.elem-conj4.ensures c.before.before.mul4.ensures c.add2.ensures
+returns c = let p = c.args in twice K _ _ _ _ _ _ _ _ _ (more K _ _ _ _ _ _ _ (c.mul-x.ensures ∙ ap (K.mul (value p.alpha)) c.elem_conj.ensures) c.elem_conj-3.ensures c.mul-first.ensures c.add.ensures) (c.mul-y.ensures ∙ (λ t. K.mul (c.conj.ensures t) (c.elem_conj-2.ensures t))) c.elem_conj-4.ensures c.mul-second.ensures c.add-2.ensures
 
-pub add-weighed-spec : {M : Type 1} → statement M
-add-weighed-spec = tie.close (tie.spec
+pub add_weighed_spec : {M : Type 1} → statement M
+add_weighed_spec = tie.close (tie.spec
     (λ c κs. search left-a-shows) (λ c κs. tt) (λ c κs. tt) (λ c κs. search left-b-shows) (λ c κs. tt) (λ c κs. search right-b-shows) (λ c κs. tt)
     (λ c κs. search right-a-shows) (λ c κs. tt) (λ c κs. tt) (λ c κs. tt) returns)

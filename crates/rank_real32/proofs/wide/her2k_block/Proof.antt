@@ -1,26 +1,26 @@
 -- Column after column is settled from the eight sums (LoopLaws: span-next; Eights: sum_of, columns-end).
-use Rattle.rank_real32.proofs.Words.{needs, ◌≤◌, ◌-◌, ◌≡◌, refl, ap, arith, length, now, span, weigheds_at, her2k_change, sum_of, columns-end, block-sums, block-shows, K, scale_by, value}
+use Rattle.rank_real32.proofs.Words.{rules, ◌≤◌, ◌-◌, ◌≡◌, refl, ap, arith, length, span, weigheds_at, her2k_change, sum_of, columns-end, block-sums, block-shows, K, scale_by, value}
 use Rattle.slabs.proofs.LoopLaws.{span-start}
 use Rattle.slabs.proofs.LoopLaws.{span-next}
 use Rattle.rank_real32.proofs.wide.her2k_block.Statement.{statement}
 use Rattle.rank_real32.proofs.wide.her2k_block.Tie as tie
 
-abbrev invariant-loop : tie.invariant-loop
+abbrev invariant-loop : tie.invariant-loop-j
 invariant-loop beta plan a b c₀ i from first end sums j₀ c j = (first ≤ j) × (j ≤ end) × (length c ≡ length c₀) × (c ≡ span K plan.target (λ r k old. K.add (scale_by beta old) (K.at sums (k - from))) i first j c₀)
 
-abbrev decreases-loop : tie.decreases-loop
+abbrev decreases-loop : tie.decreases-loop-j
 decreases-loop beta plan a b c₀ i from first end sums j₀ c j = end - j
 
 returns : tie.Need-returns invariant-loop decreases-loop
 returns c =
     let s = c.before.before.before.before.before.before in
     let p = s.args in
-    let l = c.before.loop in
-    columns-end K _ _ (her2k_change K p.plan (now p.a) (now p.b) (value p.alpha) (scale_by p.beta)) _ _ _ _ _ _ l.invariant.0 l.invariant.1 (omega arith) l.invariant.3
-    (λ k f g old. ap (λ z. K.add (scale_by p.beta old) z) (sum_of K (λ k. weigheds_at K p.plan (now p.a) (now p.b) (value p.alpha) p.i k p.plan.terms) _ p.from k c.before.before.weighed-sums.ensures (omega (arith, s.requires.block.begins)) (omega (arith, s.requires.block.ends))))
+    let l = c.loop-j in
+    columns-end K _ _ (her2k_change K p.plan p.a.now p.b.now (value p.alpha) (scale_by p.beta)) _ _ _ _ _ _ l.invariant.0 l.invariant.1 (omega arith) l.invariant.3
+    (λ k f g old. ap (λ z. K.add (scale_by p.beta old) z) (sum_of K (λ k. weigheds_at K p.plan p.a.now p.b.now (value p.alpha) p.i k p.plan.terms) _ p.from k c.weighed_sums-sums.ensures (omega (arith, s.requires.block.begins)) (omega (arith, s.requires.block.ends))))
 
-pub her2k-block-spec : {M : Type 1} → statement M
-her2k-block-spec = tie.close (tie.spec
-    invariant-loop decreases-loop (λ c κs. search block-sums) (λ c. (omega arith, search needs, refl, span-start K _ _ _ _ _)) (λ c. search needs) (λ c. search needs)
-    (λ c. omega (arith, c.before.before.before.before.before.before.requires.block.begins, c.before.before.before.before.before.before.requires.block.ends))
-    (λ c κs. search block-shows) (λ c. omega arith) (λ c. omega arith) (λ c. (omega arith, omega arith, omega arith, search (span-next K))) (λ c. search needs) returns)
+pub her2k_block_spec : {M : Type 1} → statement M
+her2k_block_spec = tie.close (tie.spec
+    invariant-loop decreases-loop (λ c κs. search block-sums) (λ c. (omega arith, search rules, refl, span-start K _ _ _ _ _)) (λ c. search rules) (λ c. search rules)
+    (λ c. omega (arith, c.requires.block.begins, c.requires.block.ends))
+    (λ c κs. search block-shows) (λ c. omega arith) (λ c. omega arith) (λ c. (omega arith, omega arith, omega arith, search (span-next K))) (λ c. search rules) returns)

@@ -1,16 +1,16 @@
 -- Row after row of the fold (LoopLaws: rows_next, rows_last).
-use Rattle.rank_real32.proofs.Words.{needs, rows-begun, ◌≤◌, ◌-◌, ◌≡◌, refl, arith, length, in_triangle, update_rows, rows_next, rows_last, her2k_change, paired-kept, K, scale_by, value}
+use Rattle.rank_real32.proofs.Words.{rules, rows-begun, ◌≤◌, ◌-◌, ◌≡◌, refl, arith, length, in_triangle, update_rows, rows_next, rows_last, her2k_change, paired-kept, K, scale_by, value}
 use Rattle.rank_real32.proofs.wide.her2k_wide.Statement.{statement}
 use Rattle.rank_real32.proofs.wide.her2k_wide.Tie as tie
 
-abbrev invariant-loop : tie.invariant-loop
+abbrev invariant-loop : tie.invariant-loop-i
 invariant-loop alpha beta plan a b c₀ m i₀ c i = (i ≤ m) × (length c ≡ length c₀) × (c ≡ update_rows K plan.target (in_triangle plan.uplo) (her2k_change K plan a b (value alpha) (scale_by beta)) i c₀)
 
-pub her2k-wide-spec : {M : Type 1} → statement M
-her2k-wide-spec = tie.close (tie.spec
+pub her2k_wide_spec : {M : Type 1} → statement M
+her2k_wide_spec = tie.close (tie.spec
     invariant-loop (λ alpha beta plan a b c₀ m i₀ c i. m - i) (λ c κs. tt) (λ c. (omega arith, refl, rows-begun _ _ _ _ _))
-    (λ c κs. (search paired-kept, search needs, search needs))
+    (λ c κs. (search paired-kept, search rules, search rules))
     (λ c. omega arith) (λ c. omega arith)
     (λ c. (omega arith, omega arith, search (rows_next K)))
-    (λ c. search needs)
+    (λ c. search rules)
     (λ c. search (rows_last K)))

@@ -1,15 +1,15 @@
 -- The eight sums are those of the pairs so far; each turn adds a pair to each (Eights: pairs_next, pairs_end).
-use Rattle.rank_real32.proofs.Words.{needs, ◌+◌, ◌≤◌, ◌-◌, arith, Eight, pairs_at, pairs_start, pairs_next, pairs_end, K}
+use Rattle.rank_real32.proofs.Words.{rules, ◌+◌, ◌≤◌, ◌-◌, arith, Eight, pairs_at, pairs_start, pairs_next, pairs_end, K}
 use Rattle.rank_real32.proofs.wide.pair_sums.Statement.{statement}
 use Rattle.rank_real32.proofs.wide.pair_sums.Tie as tie
 
-abbrev invariant-loop : tie.invariant-loop
+abbrev invariant-loop : tie.invariant-loop-p
 invariant-loop plan a b i j n sums₀ p₀ sums p = (p ≤ n) × Eight K sums (λ t. pairs_at K plan a b i (j + t) p)
 
-pub pair-sums-spec : {M : Type 1} → statement M
-pair-sums-spec = tie.close (tie.spec
+pub pair_sums_spec : {M : Type 1} → statement M
+pair_sums_spec = tie.close (tie.spec
     invariant-loop (λ plan a b i j n sums₀ p₀ sums p. n - p) (λ c κs. tt)
-    (λ c. (omega arith, pairs_start K _ _ _ c.zeros.ensures))
-    (λ c κs. (search needs, omega arith)) (λ c. omega arith) (λ c. omega arith)
-    (λ c. (omega arith, pairs_next K _ _ _ _ _ c.before.before.loop.invariant.1 c.add-pairs.ensures))
-    (λ c. let l = c.before.loop in pairs_end K _ _ _ _ _ l.invariant.0 (omega arith) l.invariant.1))
+    (λ c. (omega arith, pairs_start K _ _ _ c.zeros-sums.ensures))
+    (λ c κs. (search rules, omega arith)) (λ c. omega arith) (λ c. omega arith)
+    (λ c. (omega arith, pairs_next K _ _ _ _ _ c.loop-p.invariant.1 c.add_pairs-next.ensures))
+    (λ c. let l = c.loop-p in pairs_end K _ _ _ _ _ l.invariant.0 (omega arith) l.invariant.1))

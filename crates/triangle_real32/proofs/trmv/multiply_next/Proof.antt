@@ -1,14 +1,14 @@
 -- What is put at the element's place is its row's sum (Multiplies: multiply-one-is).
-use Rattle.triangle_real32.proofs.Words.{arith, shown, inside, unknown-shown, multiply-one-is, needs, K}
+use Rattle.triangle_real32.proofs.Words.{arith, shown, inside, unknown-shown, multiply-one-is, rules, K}
 use Rattle.triangle_real32.proofs.trmv.multiply_next.Statement.{statement}
 use Rattle.triangle_real32.proofs.trmv.multiply_next.Tie as tie
 
 place-requires : tie.Need-place-requires
-place-requires c κs = let p = c.before.before.before.before.before.before.before.before.requires in shown _ _ _ _ (unknown-shown _ _ _ p.ready _ _ (omega (arith, c.before.before.before.in_order.ensures.1, c.before.before.before.before.rows.ensures)) p.line) (omega arith)
+place-requires c κs = let p = c.requires in shown _ _ _ _ (unknown-shown _ _ _ p.ready _ _ (omega (arith, c.in_order-q.ensures.1, c.rows.ensures)) p.line) (omega arith)
 
 put-requires : tie.Need-put-requires
-put-requires c κs = let p = c.before.before.before.before.before.before.before.before.before.requires in inside _ _ _ _ (unknown-shown _ _ _ p.ready _ _ (omega (arith, c.before.before.before.before.in_order.ensures.1, c.before.before.before.before.before.rows.ensures)) p.line) _ c.place.ensures
+put-requires c κs = let p = c.requires in inside _ _ _ _ (unknown-shown _ _ _ p.ready _ _ (omega (arith, c.in_order-q.ensures.1, c.rows.ensures)) p.line) _ c.place.ensures
 
-pub multiply-next-spec : {M : Type 1} → statement M
-multiply-next-spec = tie.close (tie.spec
-    (λ c κs. search needs) (λ c κs. search needs) (λ c κs. search needs) place-requires put-requires (λ c. search needs) (λ c. search (multiply-one-is K)))
+pub multiply_next_spec : {M : Type 1} → statement M
+multiply_next_spec = tie.close (tie.spec
+    (λ c κs. search rules) (λ c κs. search rules) (λ c κs. search rules) place-requires put-requires (λ c. search rules) (λ c. search (multiply-one-is K)))

@@ -1,12 +1,12 @@
 -- A refused call leaves its slab; a passed one gives what its side's solve does (SolveKernels: trsm-refused, trsm-done).
-use Rattle.triangle_real32.proofs.Words.{matrix-runs, trsm-refused, trsm-done, needs, K}
+use Rattle.triangle_real32.proofs.Words.{matrix-runs, trsm-refused, trsm-done, rules, K}
 use Rattle.triangle_real32.proofs.trsm.trsm.Statement.{statement}
 use Rattle.triangle_real32.proofs.trsm.trsm.Tie as tie
 
-pub trsm-spec : {M : Type 1} → statement M
-trsm-spec = tie.close (tie.spec
-    (λ c κs. search needs) (λ c κs. c.quick-trmm.ensures) (λ c κs. search needs)
+pub trsm_spec : {M : Type 1} → statement M
+trsm_spec = tie.close (tie.spec
+    (λ c κs. search rules) (λ c κs. c.quick_trmm-quick.ensures) (λ c κs. search rules)
     (λ c κs. search matrix-runs)
-    (λ c. search needs)
+    (λ c. search rules)
     (λ c. search (trsm-done K))
     (λ c. search (trsm-refused K)))
