@@ -10,7 +10,7 @@ pub mod real64;
 mod record;
 mod tally;
 
-pub use file::{List, next, open};
+pub use file::{LONGEST, List, next, open};
 pub use record::{
     answer, check_length, check_view, check_whole, diag, kind, routine, side, target, trans, uplo,
     view,

@@ -6,10 +6,8 @@ use number::Real64;
 
 // The cells that begin at `at`, to the slab.
 pub fn fill(body: &[u8], at: usize, s: &mut [f64]) {
-    let mut i = 0;
-    while i < s.len() {
-        s[i] = f64_of(cell_f64(body, at, i));
-        i += 1;
+    for (i, x) in s.iter_mut().enumerate() {
+        *x = f64_of(cell_f64(body, at, i));
     }
 }
 
@@ -26,12 +24,10 @@ pub fn slab<'a>(body: &[u8], k: u8, space: &'a mut [f64]) -> &'a mut [f64] {
 
 // Whether every cell of s is alike to the cells that begin at `at`.
 pub fn same(body: &[u8], at: usize, s: &[f64]) -> bool {
-    let mut i = 0;
-    while i < s.len() {
-        if !alike_f64(s[i], cell_f64(body, at, i)) {
+    for (i, x) in s.iter().enumerate() {
+        if !alike_f64(*x, cell_f64(body, at, i)) {
             return false;
         }
-        i += 1;
     }
     true
 }

@@ -4,6 +4,7 @@ ghost use Rattle.std.specs.Prelude.{◌<◌};
 use crate::file::List;
 use crate::record::{kind_of, routine};
 use encoding::little::wide;
+use std::io;
 
 // The place of a routine and a kind in the counts.
 fn slot(routine: u8, kind: u8) -> usize {
@@ -21,7 +22,7 @@ fn one_more(counts: [u64; 64], at: usize) -> [u64; 64] {
 }
 
 // The list with the call of its next record counted; no record is left where there was none.
-pub fn counted(list: List, body: &[u8], agrees: bool) -> List
+pub fn counted<F>(list: List<F>, body: &[u8], agrees: bool) -> List<F>
     requires { 0 < list.left }
     ensures { result.left < list.left }
 {
@@ -43,41 +44,41 @@ pub fn counted(list: List, body: &[u8], agrees: bool) -> List
     l
 }
 
-fn text(s: &[u8]) {
-    io::write_all(1, s);
+fn text(rt: &impl Print, s: &[u8]) -> io::Result<()> {
+    rt.write_all(s)
 }
 
-fn number(n: u64) {
-    io::print_decimal(1, n);
+fn number(rt: &impl Print, n: u64) -> io::Result<()> {
+    print!(rt; "{n}")
 }
 
-fn routine_name(routine: u8) {
+fn routine_name(rt: &impl Print, routine: u8) -> io::Result<()> {
     match routine {
-        0 => text(b"gemv"),
-        1 => text(b"hemv"),
-        2 => text(b"her"),
-        3 => text(b"her2"),
-        4 => text(b"trmv"),
-        5 => text(b"trsv"),
-        6 => text(b"gemm"),
-        7 => text(b"symm"),
-        8 => text(b"hemm"),
-        9 => text(b"syrk"),
-        10 => text(b"herk"),
-        11 => text(b"syr2k"),
-        12 => text(b"her2k"),
-        13 => text(b"trmm"),
-        14 => text(b"trsm"),
-        _ => text(b"card"),
+        0 => text(rt, b"gemv"),
+        1 => text(rt, b"hemv"),
+        2 => text(rt, b"her"),
+        3 => text(rt, b"her2"),
+        4 => text(rt, b"trmv"),
+        5 => text(rt, b"trsv"),
+        6 => text(rt, b"gemm"),
+        7 => text(rt, b"symm"),
+        8 => text(rt, b"hemm"),
+        9 => text(rt, b"syrk"),
+        10 => text(rt, b"herk"),
+        11 => text(rt, b"syr2k"),
+        12 => text(rt, b"her2k"),
+        13 => text(rt, b"trmm"),
+        14 => text(rt, b"trsm"),
+        _ => text(rt, b"card"),
     }
 }
 
-fn kind_name(kind: u8) {
+fn kind_name(rt: &impl Print, kind: u8) -> io::Result<()> {
     match kind {
-        0 => text(b"f64"),
-        1 => text(b"f32"),
-        2 => text(b"complex"),
-        _ => text(b"views"),
+        0 => text(rt, b"f64"),
+        1 => text(rt, b"f32"),
+        2 => text(rt, b"complex"),
+        _ => text(rt, b"views"),
     }
 }
 
@@ -86,27 +87,33 @@ fn at_or_zero(counts: &[u64; 64], at: usize) -> u64 {
 }
 
 // One line for a routine and a kind that were called.
-fn line(routine: u8, kind: u8, calls: &[u64; 64], agreed: &[u64; 64]) {
+fn line(
+    rt: &impl Print,
+    routine: u8,
+    kind: u8,
+    calls: &[u64; 64],
+    agreed: &[u64; 64],
+) -> io::Result<()> {
     let at = slot(routine, kind);
     let n = at_or_zero(calls, at);
     if n == 0 {
-        return;
+        return Ok(());
     }
-    routine_name(routine);
-    text(b" ");
-    kind_name(kind);
-    text(b": ");
-    number(n);
-    text(b" calls, ");
-    number(at_or_zero(agreed, at));
-    text(b" agreed\n");
+    routine_name(rt, routine)?;
+    text(rt, b" ")?;
+    kind_name(rt, kind)?;
+    text(rt, b": ")?;
+    number(rt, n)?;
+    text(rt, b" calls, ")?;
+    number(rt, at_or_zero(agreed, at))?;
+    text(rt, b" agreed\n")
 }
 
-fn lines(routine: u8, calls: &[u64; 64], agreed: &[u64; 64]) {
-    line(routine, 0, calls, agreed);
-    line(routine, 1, calls, agreed);
-    line(routine, 2, calls, agreed);
-    line(routine, 3, calls, agreed);
+fn lines(rt: &impl Print, routine: u8, calls: &[u64; 64], agreed: &[u64; 64]) -> io::Result<()> {
+    line(rt, routine, 0, calls, agreed)?;
+    line(rt, routine, 1, calls, agreed)?;
+    line(rt, routine, 2, calls, agreed)?;
+    line(rt, routine, 3, calls, agreed)
 }
 
 fn sum(a: u64, b: u64) -> u64 {
@@ -115,36 +122,29 @@ fn sum(a: u64, b: u64) -> u64 {
 
 fn total(counts: &[u64; 64]) -> u64 {
     let mut t = 0;
-    let mut i = 0;
-    while i < 64 {
-        t = sum(t, counts[i]);
-        i += 1;
+    for n in counts {
+        t = sum(t, *n);
     }
     t
 }
 
-fn all_lines(calls: &[u64; 64], agreed: &[u64; 64]) {
-    let mut routine = 0;
-    while routine < 16 {
-        lines(routine, calls, agreed);
-        routine += 1;
+fn all_lines(rt: &impl Print, calls: &[u64; 64], agreed: &[u64; 64]) -> io::Result<()> {
+    for routine in 0..16 {
+        lines(rt, routine, calls, agreed)?;
     }
+    Ok(())
 }
 
 // A line for each routine and kind that were called, then the list's records and how many of them agreed.
-pub fn report(list: List) {
-    if list.fd < 0 {
-        return;
-    }
-    libc::close(list.fd);
+pub fn report<F: Drop>(rt: &impl Print, list: List<F>) -> io::Result<()> {
     let calls = list.calls;
     let agreed = list.agreed;
-    all_lines(&calls, &agreed);
-    text(b"total: ");
-    number(list.records);
-    text(b" records, ");
-    number(total(&calls));
-    text(b" calls, ");
-    number(total(&agreed));
-    text(b" agreed\n");
+    all_lines(rt, &calls, &agreed)?;
+    text(rt, b"total: ")?;
+    number(rt, list.records)?;
+    text(rt, b" records, ")?;
+    number(rt, total(&calls))?;
+    text(rt, b" calls, ")?;
+    number(rt, total(&agreed))?;
+    text(rt, b" agreed\n")
 }

@@ -115,12 +115,10 @@ fn writing(body: &[u8], slab: &[f64], buffer: &mut [u8]) -> Writing {
 fn same_bytes(body: &[u8], at: usize, s: &[u8]) -> bool
     requires { at ≤ 65536 }
 {
-    let mut i = 0;
-    while i < s.len() {
-        if byte(body, at + i) != s[i] {
+    for (i, x) in s.iter().enumerate() {
+        if byte(body, at + i) != *x {
             return false;
         }
-        i += 1;
     }
     true
 }

@@ -5,13 +5,16 @@
 mod call;
 mod record;
 
-fn main() {
-    let mut list = recorded_calls::open(b"card.bin");
+use anyhow::{Context, Result};
+
+fn main(rt: HostRuntime) -> Result<()> {
+    let mut list = recorded_calls::open(&rt, "card.bin").context("card.bin")?;
     while list.left > 0 {
-        let mut space = io::buffer();
-        let n = recorded_calls::next(list.fd, &mut space);
+        let mut space = [0u8; recorded_calls::LONGEST];
+        let n = recorded_calls::next(&mut list.file, &mut space)?;
         let agreed = call::agrees(&space[..n]);
         list = recorded_calls::counted(list, &space[..n], agreed);
     }
-    recorded_calls::report(list);
+    recorded_calls::report(&rt, list)?;
+    Ok(())
 }

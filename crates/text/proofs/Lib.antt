@@ -1,3 +1,2 @@
 -- The lemma that the functions' proofs share.
 pub mod NotNan
-mod Words

@@ -1,5 +1,5 @@
 -- A number that does not differ from itself is no NaN. Assumes nothing.
-use Rattle.std.proofs.Common.{◌≡◌, true, false, not, T, sym, subst}
+use Rattle.std.proofs.Common.{◌≡◌, false, not, T, subst}
 use lib.Ieee.{Float, nan, inf, fin, is_nan, ne}
 
 pub equals_itself : (x : Float) → ne x x ≡ false → T (not (is_nan x))

@@ -3,123 +3,122 @@
 #![tactic(auto)]
 
 use number::{Beta32, Beta64, BetaComplex, Complex, Multiplier, Real32, Real64};
+use std::io;
 
-pub fn text(s: &[u8]) {
-    io::write_all(1, s);
+pub fn text(rt: &impl Print, s: &[u8]) -> io::Result<()> {
+    rt.write_all(s)
 }
 
-pub fn answer(yes: bool) {
+pub fn answer(rt: &impl Print, yes: bool) -> io::Result<()> {
     if yes {
-        text(b"yes");
+        text(rt, b"yes")
     } else {
-        text(b"no");
+        text(rt, b"no")
     }
 }
 
-pub fn real64(x: Real64) {
+pub fn real64(rt: &impl Print, x: Real64) -> io::Result<()> {
     let v = x.0;
     if v != v {
-        text(b"NaN");
-        return;
+        return text(rt, b"NaN");
     }
     let pattern = f64::to_bits(v);
-    word(pattern >= 0x8000_0000_0000_0000, v, 2.2250738585072014e-308);
-    bits(pattern, 16);
+    word(
+        rt,
+        pattern >= 0x8000_0000_0000_0000,
+        v,
+        2.2250738585072014e-308,
+    )?;
+    bits(rt, pattern, 16)
 }
 
-pub fn real32(x: Real32) {
+pub fn real32(rt: &impl Print, x: Real32) -> io::Result<()> {
     let v = x.0;
     if v != v {
-        text(b"NaN");
-        return;
+        return text(rt, b"NaN");
     }
     let pattern = f32::to_bits(v);
     word(
+        rt,
         pattern >= 0x8000_0000,
         std::num::f32_to_f64_with_nan(v),
         1.1754943508222875e-38,
-    );
-    bits(wide(pattern), 8);
+    )?;
+    bits(rt, u64::from(pattern), 8)
 }
 
-fn wide(pattern: u32) -> u64 {
-    pattern as u64
+pub fn complex(rt: &impl Print, z: Complex) -> io::Result<()> {
+    text(rt, b"(")?;
+    real64(rt, Real64(z.re))?;
+    text(rt, b", ")?;
+    real64(rt, Real64(z.im))?;
+    text(rt, b")")
 }
 
-pub fn complex(z: Complex) {
-    text(b"(");
-    real64(Real64(z.re));
-    text(b", ");
-    real64(Real64(z.im));
-    text(b")");
-}
-
-pub fn beta64(beta: Beta64) {
+pub fn beta64(rt: &impl Print, beta: Beta64) -> io::Result<()> {
     match beta {
-        Beta64::Clear => text(b"Clear"),
-        Beta64::Keep => text(b"Keep"),
+        Beta64::Clear => text(rt, b"Clear"),
+        Beta64::Keep => text(rt, b"Keep"),
         Beta64::Factor(b) => {
-            text(b"Factor ");
-            real64(Real64(b));
+            text(rt, b"Factor ")?;
+            real64(rt, Real64(b))
         }
     }
 }
 
-pub fn beta32(beta: Beta32) {
+pub fn beta32(rt: &impl Print, beta: Beta32) -> io::Result<()> {
     match beta {
-        Beta32::Clear => text(b"Clear"),
-        Beta32::Keep => text(b"Keep"),
+        Beta32::Clear => text(rt, b"Clear"),
+        Beta32::Keep => text(rt, b"Keep"),
         Beta32::Factor(b) => {
-            text(b"Factor ");
-            real32(Real32(b));
+            text(rt, b"Factor ")?;
+            real32(rt, Real32(b))
         }
     }
 }
 
-pub fn beta_complex(beta: BetaComplex) {
+pub fn beta_complex(rt: &impl Print, beta: BetaComplex) -> io::Result<()> {
     match beta {
-        BetaComplex::Clear => text(b"Clear"),
-        BetaComplex::Keep => text(b"Keep"),
+        BetaComplex::Clear => text(rt, b"Clear"),
+        BetaComplex::Keep => text(rt, b"Keep"),
         BetaComplex::Factor(m) => {
-            text(b"Factor ");
-            multiplier(m);
+            text(rt, b"Factor ")?;
+            multiplier(rt, m)
         }
     }
 }
 
-fn multiplier(m: Multiplier) {
+fn multiplier(rt: &impl Print, m: Multiplier) -> io::Result<()> {
     match m {
-        Multiplier::Number(b) => complex(b),
-        Multiplier::Real(v) => real64(Real64(v)),
+        Multiplier::Number(b) => complex(rt, b),
+        Multiplier::Real(v) => real64(rt, Real64(v)),
     }
 }
 
-fn bits(n: u64, digits: usize) {
-    text(b" [");
-    io::print_hex(1, n, digits);
-    text(b"]");
+fn bits(rt: &impl Print, n: u64, digits: usize) -> io::Result<()> {
+    print!(rt; " [{n:0digits$x}]")
 }
 
 // What x, which is no NaN, is. `normal` is the smallest normal number of its format.
-fn word(negative: bool, x: f64, normal: f64) {
+fn word(rt: &impl Print, negative: bool, x: f64, normal: f64) -> io::Result<()> {
     if negative {
-        text(b"-");
-        magnitude(-x, normal);
+        text(rt, b"-")?;
+        magnitude(rt, -x, normal)
     } else {
-        magnitude(x, normal);
+        magnitude(rt, x, normal)
     }
 }
 
-fn magnitude(x: f64, normal: f64) {
+fn magnitude(rt: &impl Print, x: f64, normal: f64) -> io::Result<()> {
     let n = whole_part(x);
     if std::num::nearest_u64_to_f64(n) == x {
-        io::print_decimal(1, n);
+        print!(rt; "{n}")
     } else if x < normal {
-        text(b"subnormal");
+        text(rt, b"subnormal")
     } else if x < 1.0 / 0.0 {
-        text(b"fraction");
+        text(rt, b"fraction")
     } else {
-        text(b"inf");
+        text(rt, b"inf")
     }
 }
 
@@ -134,22 +133,22 @@ fn whole_part(x: f64) -> u64 {
 }
 
 // A whole number of at most three digits, in a column seven wide.
-pub fn column(x: f64) {
+pub fn column(rt: &impl Print, x: f64) -> io::Result<()> {
     if x < 0.0 {
-        right(whole_part(-x), b"-");
+        right(rt, whole_part(-x), b"-")
     } else {
-        right(whole_part(x), b" ");
+        right(rt, whole_part(x), b" ")
     }
 }
 
-fn right(n: u64, sign: &[u8]) {
+fn right(rt: &impl Print, n: u64, sign: &[u8]) -> io::Result<()> {
     if n < 10 {
-        text(b"     ");
+        text(rt, b"     ")?;
     } else if n < 100 {
-        text(b"    ");
+        text(rt, b"    ")?;
     } else {
-        text(b"   ");
+        text(rt, b"   ")?;
     }
-    text(sign);
-    io::print_decimal(1, n);
+    text(rt, sign)?;
+    print!(rt; "{n}")
 }

@@ -1,2 +1,0 @@
--- Names that several proofs of the crate cite.
-mod Words

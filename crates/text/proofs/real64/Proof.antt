@@ -1,9 +1,0 @@
--- The bits are asked of a number that equals itself, which is no NaN (NotNan: equals_itself).
-use Rattle.text.proofs.Words.{needs, equals_itself}
-use Rattle.text.proofs.real64.Statement.{statement}
-use Rattle.text.proofs.real64.Tie as tie
-
-pub real64-spec : {M : Type 1} → statement M
-real64-spec = tie.close (tie.spec
-    (λ c. search needs) (λ c κs. search needs) (λ c. search needs) (λ c. equals_itself c.before.args.x.0 c.if1.false) (λ c κs. search needs)
-    (λ c κs. search needs) (λ c. search needs))
