@@ -38,7 +38,7 @@ numbers: need-rt
 	@mkdir -p target
 	@echo "Proving the number kinds and building the program (a minute or two from nothing) .."
 	@scripts/prove check worked_examples target/numbers.log
-	@rt run worked_examples
+	@cd crates/worked_examples && rt run
 
 # rt ci comes last: its last line, 'N passed, M failed', is the verdict.
 test: need-rt
@@ -59,7 +59,7 @@ $(ARCHIVE): $(PARTS)
 	@printf 'create $@\n$(PARTS:%=addlib %\n)save\nend\n' | $(AR) -M
 
 # A crate and all that it uses, by crates.txt.
-used = $(shell awk -F: -v want=$(1) '{ split($$1, n, " "); uses[n[1]] = $$2 } END { n = split(want, q, " "); \
+used = $(shell awk -F: -v want=$(1) '{ split($$1, head, " "); uses[head[1]] = $$2 } END { n = split(want, q, " "); \
 	for (i = 1; i <= n; i++) if (q[i] in uses && !seen[q[i]]++) { print q[i]; m = split(uses[q[i]], d, " "); \
 	for (k = 1; k <= m; k++) q[++n] = d[k] } }' crates.txt)
 
