@@ -158,7 +158,7 @@ netlib-examples: need-cargo need-cc $(if $(wildcard /usr/lib/*/blas/libblas.a),a
 
 # What to install where a command is missing.
 need = command -v $(1) > /dev/null || { echo "$(1) is not found: install $(2)" >&2; exit 1; }
-NEED_RT = $(call need,rt,the Rattle kit (rattle-kit-5b) and put its bin/ on PATH)
+NEED_RT = $(call need,rt,the Rattle kit (rattle-kit-13f) and put its bin/ on PATH)
 
 need-rt:
 	@$(NEED_RT)

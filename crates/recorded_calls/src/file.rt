@@ -41,7 +41,7 @@ pub fn open<R: Files>(rt: &R, path: &str) -> io::Result<List<R::File>> {
 // The number of records, which stands at the file's start; 0 where the file is no list.
 fn records(file: &mut impl Read) -> io::Result<u64> {
     let mut head = [0u8; 16];
-    if !is_filled(file, &mut head)? {
+    if !reads_all(file, &mut head)? {
         return Ok(0);
     }
     if u64_at(&head, 0) != FORMAT {
@@ -51,7 +51,7 @@ fn records(file: &mut impl Read) -> io::Result<u64> {
 }
 
 // Reads as many bytes as body has; whether they were there.
-fn is_filled(file: &mut impl Read, body: &mut [u8]) -> io::Result<bool> {
+fn reads_all(file: &mut impl Read, body: &mut [u8]) -> io::Result<bool> {
     match file.read_exact(body) {
         Ok(()) => Ok(true),
         Err(e) => {
@@ -69,7 +69,7 @@ fn fill(file: &mut impl Read, body: &mut [u8], n: usize) -> io::Result<usize>
     ensures { IfOk result (λ r. IsPrefixLen r body.new) }
 {
     if n <= body.len() {
-        if is_filled(file, &mut body[..n])? {
+        if reads_all(file, &mut body[..n])? {
             Ok(n)
         } else {
             Ok(0)
@@ -84,7 +84,7 @@ pub fn next(file: &mut impl Read, body: &mut [u8]) -> io::Result<usize>
     ensures { IfOk result (λ r. IsPrefixLen r body.new) }
 {
     let mut size = [0u8; 2];
-    if is_filled(file, &mut size)? {
+    if reads_all(file, &mut size)? {
         fill(file, body, u16_at(&size, 0) as usize)
     } else {
         Ok(0)
