@@ -61,7 +61,7 @@
 
 #define ZB_VERSION_MAJOR 0
 #define ZB_VERSION_MINOR 1
-#define ZB_VERSION_PATCH 1
+#define ZB_VERSION_PATCH 2
 #define ZB_VERSION "0.1.2"
 
 enum zb_trans { ZB_NO_TRANS = 0, ZB_TRANS = 1, ZB_CONJ_TRANS = 2 };

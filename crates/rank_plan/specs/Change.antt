@@ -24,31 +24,31 @@ module _ (K : Kind) (plan : Plan) (a b : List K.Cell) where
   abbrev pub right_matrix_b : Matrix K
   right_matrix_b = elem_conj K plan.right_conj b plan.right_b
 
-  abbrev pub left_b : Matrix K
-  left_b = elem_conj K plan.left_conj b plan.left_b
+  abbrev pub left_matrix_b : Matrix K
+  left_matrix_b = elem_conj K plan.left_conj b plan.left_b
 
   abbrev pub right_matrix_a : Matrix K
   right_matrix_a = elem_conj K plan.right_conj a plan.right_a
 
   -- the two products at p, added one after the other, and the sum of the first n pairs
   abbrev pub pair_at : ℕ → ℕ → ℕ → K.Elem → K.Elem
-  pair_at i j p sum = K.add (K.add sum (K.mul (left_matrix_a i p) (right_matrix_b p j))) (K.mul (left_b i p) (right_matrix_a p j))
+  pair_at i j p sum = K.add (K.add sum (K.mul (left_matrix_a i p) (right_matrix_b p j))) (K.mul (left_matrix_b i p) (right_matrix_a p j))
 
   abbrev pub pairs_at : ℕ → ℕ → ℕ → K.Elem
-  pairs_at i j n = pair_sum K n (λ p. K.mul (left_matrix_a i p) (right_matrix_b p j)) (λ p. K.mul (left_b i p) (right_matrix_a p j))
+  pairs_at i j n = pair_sum K n (λ p. K.mul (left_matrix_a i p) (right_matrix_b p j)) (λ p. K.mul (left_matrix_b i p) (right_matrix_a p j))
 
   -- the same, the left factors weighed by alpha and by its conjugate
   abbrev pub weighed_at : K.Elem → ℕ → ℕ → ℕ → K.Elem → K.Elem
   weighed_at alpha i j p sum =
       K.add
       (K.add sum (K.mul (K.mul alpha (left_matrix_a i p)) (right_matrix_b p j)))
-      (K.mul (K.mul (K.conj alpha) (left_b i p)) (right_matrix_a p j))
+      (K.mul (K.mul (K.conj alpha) (left_matrix_b i p)) (right_matrix_a p j))
 
   abbrev pub weigheds_at : K.Elem → ℕ → ℕ → ℕ → K.Elem
   weigheds_at alpha i j n =
       pair_sum K n
       (λ p. K.mul (K.mul alpha (left_matrix_a i p)) (right_matrix_b p j))
-      (λ p. K.mul (K.mul (K.conj alpha) (left_b i p)) (right_matrix_a p j))
+      (λ p. K.mul (K.mul (K.conj alpha) (left_matrix_b i p)) (right_matrix_a p j))
 
   -- `by_beta` is what beta does to an element
   abbrev pub syr2k_change : K.Elem → (K.Elem → K.Elem) → Change K

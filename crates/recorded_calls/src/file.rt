@@ -1,5 +1,5 @@
 // A list as a file: 8 bytes that name the format, the number of records, then the records, each behind its length.
-ghost use Rattle.std.specs.Prelude.{IfOk};
+ghost use Rattle.std.specs.Prelude.{◌≡◌, IfOk, OnErr, length};
 ghost use Rattle.std.specs.Counts.{IsPrefixLen};
 
 use encoding::little::{u16_at, u64_at};
@@ -64,9 +64,11 @@ fn reads_all(file: &mut impl Read, body: &mut [u8]) -> io::Result<bool> {
     }
 }
 
-// Reads n bytes to the start of body, and answers n, or 0 where they are not there or body is shorter.
+// Reads n bytes to the start of body, and answers n, or 0 where they are not there or body is shorter. Its error is that of
+// the file's read; what body then has are the bytes read so far and its own.
 fn fill(file: &mut impl Read, body: &mut [u8], n: usize) -> io::Result<usize>
-    ensures { IfOk result (λ r. IsPrefixLen r body.new) }
+    ensures read { IfOk result (λ r. IsPrefixLen r body.new) }
+    ensures failed { OnErr result (length body.new ≡ length body.old) }
 {
     if n <= body.len() {
         if reads_all(file, &mut body[..n])? {
@@ -79,9 +81,10 @@ fn fill(file: &mut impl Read, body: &mut [u8], n: usize) -> io::Result<usize>
     }
 }
 
-// Reads the next record to the start of body, and answers its length, or 0 where there is none.
+// Reads the next record to the start of body, and answers its length, or 0 where there is none. Its error is as fill's.
 pub fn next(file: &mut impl Read, body: &mut [u8]) -> io::Result<usize>
-    ensures { IfOk result (λ r. IsPrefixLen r body.new) }
+    ensures read { IfOk result (λ r. IsPrefixLen r body.new) }
+    ensures failed { OnErr result (length body.new ≡ length body.old) }
 {
     let mut size = [0u8; 2];
     if reads_all(file, &mut size)? {
