@@ -11,7 +11,6 @@ use product_plan::{left_plan, right_plan};
 use view::{Side, UpLo, View, cols, rows};
 
 // symm's and hemm's, with A's upper triangle in u.
-#[inline(always)]
 pub(crate) fn run_wide(
     side: Side,
     alpha: Number,

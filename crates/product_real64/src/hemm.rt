@@ -7,7 +7,7 @@ ghost use Rattle.slabs.specs.Update.{everywhere, update_row, update};
 ghost use Rattle.blas.specs.Outcome.{Gives};
 ghost use Rattle.blas.specs.Hemm;
 ghost use Rattle.product_plan.specs.Plan.{across_change, AcrossReady};
-ghost use Rattle.product_plan.specs.Plans.{ReadySided, sided_work};
+ghost use Rattle.product_plan.specs.Plans.{element_plan, is_left, ReadySided, sided_work};
 
 use crate::folded::across_entry;
 use crate::kind::{Beta, Cell, Number};
@@ -62,6 +62,26 @@ fn hemm_elements(
     }
 }
 
+// The whole target, with A's upper triangle in u. A call of its own, so that its plan is on the stack for no other.
+#[inline(never)]
+fn hemm_narrow(
+    side: Side,
+    alpha: Number,
+    a: &[Cell],
+    u: View,
+    b: &[Cell],
+    vb: View,
+    beta: Beta,
+    c: &mut [Cell],
+    vc: View,
+)
+    requires { AcrossReady (is_left side) (element_plan side u vb vc) (K.count a.now) (K.count b.now) vc (K.count c.old) }
+    ensures { c.new ≡ update K vc everywhere (across_change K (is_left side) (element_plan side u vb vc) (scale_by beta) (K.mul (value alpha)) a.now b.now) c.old }
+{
+    let plan = element_plan(side, u, vb, vc);
+    hemm_elements(is_left(side), plan, a, b, alpha, beta, c, vc);
+}
+
 // A, of which the named triangle is read, on a side of B; its other elements are mirrored and conjugated.
 fn hemm_sided(
     side: Side,
@@ -82,8 +102,7 @@ fn hemm_sided(
     if 8 <= cols(vc) {
         run_wide(side, alpha, a, u, b, vb, beta, c, vc);
     } else {
-        let plan = element_plan(side, u, vb, vc);
-        hemm_elements(is_left(side), plan, a, b, alpha, beta, c, vc);
+        hemm_narrow(side, alpha, a, u, b, vb, beta, c, vc);
     }
 }
 

@@ -1,5 +1,5 @@
 -- The upper triangle is read, of A or of its transpose: eight columns at a time, or element by element (Upper: upper-done, across-done).
-use Rattle.product_real64.proofs.Words.{true, arith, rules, upper-ready, upper-done, across-ready, across-done, commutes, self-conjugate, K, scale_by, value}
+use Rattle.product_real64.proofs.Words.{refl, true, arith, rules, upper-ready, upper-done, across-ready, across-done, commutes, self-conjugate, K, scale_by, value}
 use Rattle.product_real64.proofs.hemm.hemm_sided.Statement.{statement}
 use Rattle.product_real64.proofs.hemm.hemm_sided.Tie as tie
 
@@ -8,10 +8,10 @@ run-wide-requires c κs =
     let p = c.before.before.before.before.before.before.before in
     (upper-ready p.args.side true p.args.uplo p.args.va _ _ _ _ _ _ c.upper_view-u.ensures p.requires, omega (arith, c.cols.ensures))
 
-hemm-elements-requires : tie.Need-hemm_elements-requires
-hemm-elements-requires c κs =
-    let p = c.before.before.before.before.before.before.before.before.before in
-    across-ready p.args.side c.upper_view-u.result _ _ _ _ _ _ _ c.is_left.ensures c.element_plan-plan.ensures
+hemm-narrow-requires : tie.Need-hemm_narrow-requires
+hemm-narrow-requires c κs =
+    let p = c.before.before.before.before.before.before.before in
+    across-ready p.args.side c.upper_view-u.result _ _ _ _ _ _ _ refl refl
     (upper-ready p.args.side true p.args.uplo p.args.va _ _ _ _ _ _ c.upper_view-u.ensures p.requires)
 
 returns : tie.Need-returns-then-cols-ge8
@@ -23,9 +23,9 @@ returns-2 : tie.Need-returns-else-cols-ge8
 returns-2 c =
     let p = c.args in
     upper-done K self-conjugate true p.uplo p.va p.vb p.vc (scale_by p.beta) (K.mul (value p.alpha)) p.a.now p.b.now p.c.now p.side _ _ c.upper_view-u.ensures
-    (across-done K commutes _ p.vb p.vc (scale_by p.beta) (K.mul (value p.alpha)) p.a.now p.b.now p.c.now p.side _ _ _ c.is_left.ensures c.element_plan-plan.ensures c.hemm_elements.ensures)
+    (across-done K commutes _ p.vb p.vc (scale_by p.beta) (K.mul (value p.alpha)) p.a.now p.b.now p.c.now p.side _ _ _ refl refl c.hemm_narrow.ensures)
 
 pub hemm_sided_spec : {M : Type 1} → statement M
 hemm_sided_spec = tie.close (tie.spec
-    (λ c κs. tt) (λ c κs. tt) run-wide-requires (λ c κs. tt) (λ c κs. tt) hemm-elements-requires
+    (λ c κs. tt) (λ c κs. tt) run-wide-requires hemm-narrow-requires
     (λ c. search rules) returns (λ c. search rules) returns-2)
