@@ -38,7 +38,7 @@ numbers: need-rt
 	@mkdir -p target
 	@echo "Proving the number kinds and building the program (a minute or two from nothing) .."
 	@scripts/prove check worked_examples target/numbers.log
-	@cd crates/worked_examples && rt run
+	@cd crates/worked_examples && rt run 2>> ../../target/numbers.log
 
 # rt ci comes last: its last line, 'N passed, M failed', is the verdict.
 test: need-rt
