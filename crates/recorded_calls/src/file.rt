@@ -25,9 +25,13 @@ pub struct List<F> {
     pub agreed: [u64; 64],
 }
 
-// The list of that name, or why it cannot be read.
-pub fn open<R: Files>(rt: &R, path: &str) -> io::Result<List<R::File>> {
-    let mut file = File::open(rt, path)?;
+// The list of that name, or why it cannot be read. A name that is no text names no file.
+pub fn open<R: Files>(rt: &R, path: &[u8]) -> io::Result<List<R::File>> {
+    let name = match str::from_utf8(path) {
+        Ok(text) => text,
+        Err(_) => return Err(io::Error::from(ErrorKind::InvalidFilename)),
+    };
+    let mut file = File::open(rt, name)?;
     let n = records(&mut file)?;
     Ok(List {
         file,

@@ -8,7 +8,7 @@ mod record;
 use anyhow::{Context, Result};
 
 fn main(rt: HostRuntime) -> Result<()> {
-    let mut list = recorded_calls::open(&rt, "card.bin").context("card.bin")?;
+    let mut list = recorded_calls::open(&rt, b"card.bin").context("card.bin")?;
     while list.left > 0 {
         let mut space = [0u8; recorded_calls::LONGEST];
         let n = recorded_calls::next(&mut list.file, &mut space)?;

@@ -9,7 +9,7 @@ use recorded_calls::{check_length, check_view, side, trans};
 use view::number;
 
 fn main(rt: HostRuntime) -> Result<()> {
-    let mut list = recorded_calls::open(&rt, "check.bin").context("check.bin")?;
+    let mut list = recorded_calls::open(&rt, b"check.bin").context("check.bin")?;
     while list.left > 0 {
         let mut space = [0u8; recorded_calls::LONGEST];
         let n = recorded_calls::next(&mut list.file, &mut space)?;

@@ -9,7 +9,7 @@ mod real64;
 use anyhow::{Context, Result};
 
 fn main(rt: HostRuntime) -> Result<()> {
-    let mut list = recorded_calls::open(&rt, "product.bin").context("product.bin")?;
+    let mut list = recorded_calls::open(&rt, b"product.bin").context("product.bin")?;
     while list.left > 0 {
         let mut space = [0u8; recorded_calls::LONGEST];
         let n = recorded_calls::next(&mut list.file, &mut space)?;
