@@ -65,7 +65,8 @@ used = $(shell awk -F: -v want=$(1) '{ split($$1, head, " "); uses[head[1]] = $$
 
 # Built again when a crate that it uses has changed. Those under it are proved first.
 .SECONDEXPANSION:
-$(PARTS): crates/%.a: $$(shell find $$(addprefix crates/,$$(call used,$$(firstword $$(subst /, ,$$*)))) -path '*/out' -prune \
+$(PARTS): crates/%.a: \
+		$$(shell find $$(addprefix crates/,$$(call used,$$(firstword $$(subst /, ,$$*)))) -path '*/out' -prune \
 		-o -name '*.rt' -print -o -name '*.antt' -print)
 	@$(NEED_RT)
 	@mkdir -p target
