@@ -7,3 +7,4 @@ pub mod Triangle
 pub mod Judge
 pub mod Checks
 pub mod Steps
+pub mod Flags

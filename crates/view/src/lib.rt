@@ -10,10 +10,14 @@ ghost use Rattle.view.specs.Vector.{vec_coord, upright_of, column_of};
 ghost use Rattle.view.specs.Triangle.{first_col, end_col};
 ghost use Rattle.view.specs.Judge.{answer_number, is_done};
 ghost use Rattle.view.specs.Checks.{op_rows, op_cols, vector_of};
+ghost use Rattle.view.specs.Flags.{Decodes, trans_in_range, trans_of, up_lo_in_range, up_lo_of, side_in_range, side_of, diag_in_range, diag_of};
 ghost use Rattle.view.specs.Steps.{Shown};
 
+use std::error::Error;
+use std::fmt;
+
 // Element (r, c) is at start + r * rs + c * cs, counted in elements of the slab.
-#[derive(Clone, Copy)]
+#[derive(Clone, Copy, Debug, PartialEq, Eq)]
 pub struct View {
     pub start: usize,
     pub rows: usize,
@@ -23,14 +27,14 @@ pub struct View {
 }
 
 // A row and a column.
-#[derive(Clone, Copy)]
+#[derive(Clone, Copy, Debug, PartialEq, Eq)]
 pub struct Coord {
     pub row: usize,
     pub col: usize,
 }
 
 // op(A) is the matrix, its transpose, or its conjugate transpose.
-#[derive(Clone, Copy)]
+#[derive(Clone, Copy, Debug, PartialEq, Eq)]
 pub enum Trans {
     NoTrans,
     Trans,
@@ -38,28 +42,28 @@ pub enum Trans {
 }
 
 // The triangle that is named.
-#[derive(Clone, Copy)]
+#[derive(Clone, Copy, Debug, PartialEq, Eq)]
 pub enum UpLo {
     Upper,
     Lower,
 }
 
 // Whether the diagonal is read, or counts as ones.
-#[derive(Clone, Copy)]
+#[derive(Clone, Copy, Debug, PartialEq, Eq)]
 pub enum Diag {
     NonUnit,
     Unit,
 }
 
 // The side on which A stands.
-#[derive(Clone, Copy)]
+#[derive(Clone, Copy, Debug, PartialEq, Eq)]
 pub enum Side {
     Left,
     Right,
 }
 
 // What a call answers: done, or the refusal.
-#[derive(Clone, Copy)]
+#[derive(Clone, Copy, Debug, PartialEq, Eq)]
 pub enum Answer {
     Done,
     TooLarge,
@@ -70,56 +74,28 @@ pub enum Answer {
 }
 
 // The number of an answer.
-pub fn number(a: Answer) -> u8
-    ensures { result ≡ answer_number a }
-{
-    match a {
-        Answer::Done => 0,
-        Answer::TooLarge => 1,
-        Answer::OutOfBounds => 2,
-        Answer::ShapeMismatch => 3,
-        Answer::Overlap => 4,
-        Answer::Singular => 5,
+impl From<Answer> for u8 {
+    ghost from_gives = { λ answer n. n ≡ answer_number answer };
+
+    fn from(answer: Answer) -> u8 {
+        match answer {
+            Answer::Done => 0,
+            Answer::TooLarge => 1,
+            Answer::OutOfBounds => 2,
+            Answer::ShapeMismatch => 3,
+            Answer::Overlap => 4,
+            Answer::Singular => 5,
+        }
     }
 }
 
-// Whether a check passed.
-pub fn passed(a: Answer) -> bool
-    ensures { result ≡ is_done a }
-{
-    match a {
-        Answer::Done => true,
-        Answer::TooLarge => false,
-        Answer::OutOfBounds => false,
-        Answer::ShapeMismatch => false,
-        Answer::Overlap => false,
-        Answer::Singular => false,
+impl Answer {
+    // Whether a check passed.
+    pub fn passed(self) -> bool
+        ensures { result ≡ is_done self }
+    {
+        matches!(self, Answer::Done)
     }
-}
-
-// A view by its five numbers.
-pub fn view_of(start: usize, rows: usize, cols: usize, rs: i64, cs: i64) -> View
-    ensures { result ≡ view_of start rows cols rs cs }
-{
-    View {
-        start,
-        rows,
-        cols,
-        rs,
-        cs,
-    }
-}
-
-pub fn rows(v: View) -> usize
-    ensures { result ≡ v.rows }
-{
-    v.rows
-}
-
-pub fn cols(v: View) -> usize
-    ensures { result ≡ v.cols }
-{
-    v.cols
 }
 
 // k steps of a stride.
@@ -130,121 +106,212 @@ fn steps(k: usize, stride: i64) -> i64
     k as i64 * stride
 }
 
-// The index of element (r, c) in the slab.
-pub fn place(v: View, r: usize, c: usize) -> usize
-    requires { Shown v r c }
-    ensures { result ≡ index v r c }
-{
-    (v.start as i64 + steps(r, v.rs) + steps(c, v.cs)) as usize
-}
+impl View {
+    // A view by its five numbers.
+    pub fn new(start: usize, rows: usize, cols: usize, rs: i64, cs: i64) -> View
+        ensures { result ≡ view_of start rows cols rs cs }
+    {
+        View {
+            start,
+            rows,
+            cols,
+            rs,
+            cs,
+        }
+    }
 
-// The same elements with rows and columns exchanged.
-pub fn transposed(v: View) -> View
-    ensures { result ≡ transposed_of v }
-{
-    View {
-        start: v.start,
-        rows: v.cols,
-        cols: v.rows,
-        rs: v.cs,
-        cs: v.rs,
+    // The index of element (r, c) in the slab.
+    pub fn place(self, r: usize, c: usize) -> usize
+        requires { Shown self r c }
+        ensures { result ≡ index self r c }
+    {
+        (self.start as i64 + steps(r, self.rs) + steps(c, self.cs)) as usize
+    }
+
+    // The same elements with rows and columns exchanged.
+    pub fn transposed(self) -> View
+        ensures { result ≡ transposed_of self }
+    {
+        View {
+            start: self.start,
+            rows: self.cols,
+            cols: self.rows,
+            rs: self.cs,
+            cs: self.rs,
+        }
+    }
+
+    // op(A)'s elements, not conjugated.
+    pub fn op(self, t: Trans) -> View
+        ensures { result ≡ op_view_of t self }
+    {
+        match t {
+            Trans::NoTrans => self,
+            Trans::Trans => self.transposed(),
+            Trans::ConjTrans => self.transposed(),
+        }
+    }
+
+    // The rows of op(A).
+    pub fn op_rows(self, t: Trans) -> usize
+        ensures { result ≡ op_rows t self }
+    {
+        match t {
+            Trans::NoTrans => self.rows,
+            Trans::Trans | Trans::ConjTrans => self.cols,
+        }
+    }
+
+    // The columns of op(A).
+    pub fn op_cols(self, t: Trans) -> usize
+        ensures { result ≡ op_cols t self }
+    {
+        match t {
+            Trans::NoTrans => self.cols,
+            Trans::Trans | Trans::ConjTrans => self.rows,
+        }
+    }
+
+    // Where element k of a vector stands.
+    #[tactic(auto, unfolding(crate::specs::Vector::vec_coord))]
+    pub fn vec_coord(self, k: usize) -> Coord
+        ensures { result ≡ vec_coord self k }
+    {
+        if self.cols <= self.rows {
+            Coord { row: k, col: 0 }
+        } else {
+            Coord { row: 0, col: k }
+        }
+    }
+
+    // The same elements, with the columns no more than the rows.
+    fn upright(self) -> View
+        ensures { result ≡ upright_of self }
+    {
+        if self.rows < self.cols {
+            self.transposed()
+        } else {
+            self
+        }
+    }
+
+    // A vector of n elements as one column.
+    pub fn column(self, n: usize) -> View
+        requires { vector_of self n ≡ true }
+        ensures { result ≡ column_of self }
+    {
+        let u = self.upright();
+        View {
+            start: u.start,
+            rows: n,
+            cols: 1,
+            rs: u.rs,
+            cs: 0,
+        }
     }
 }
 
-// op(A)'s elements, not conjugated.
-pub fn op_view(t: Trans, v: View) -> View
-    ensures { result ≡ op_view_of t v }
-{
-    match t {
-        Trans::NoTrans => v,
-        Trans::Trans => transposed(v),
-        Trans::ConjTrans => transposed(v),
+impl Trans {
+    // Whether op conjugates.
+    pub fn conjugates(self) -> bool
+        ensures { result ≡ is_conj self }
+    {
+        matches!(self, Trans::ConjTrans)
     }
 }
 
-// The rows of op(A).
-pub fn op_rows(t: Trans, a: View) -> usize
-    ensures { result ≡ op_rows t a }
-{
-    match t {
-        Trans::NoTrans => a.rows,
-        Trans::Trans => a.cols,
-        Trans::ConjTrans => a.cols,
+impl UpLo {
+    // The first column of row i in the named triangle.
+    pub fn first_col(self, i: usize) -> usize
+        ensures { result ≡ first_col self i }
+    {
+        match self {
+            UpLo::Upper => i,
+            UpLo::Lower => 0,
+        }
+    }
+
+    // The column after the last one, with n columns.
+    pub fn end_col(self, i: usize, n: usize) -> usize
+        requires { i < n }
+        ensures { result ≡ end_col self i n }
+    {
+        match self {
+            UpLo::Upper => n,
+            UpLo::Lower => i + 1,
+        }
     }
 }
 
-// The columns of op(A).
-pub fn op_cols(t: Trans, a: View) -> usize
-    ensures { result ≡ op_cols t a }
-{
-    match t {
-        Trans::NoTrans => a.cols,
-        Trans::Trans => a.rows,
-        Trans::ConjTrans => a.rows,
+// A number that stands for no flag.
+#[derive(Clone, Copy, Debug, PartialEq, Eq)]
+pub struct UnknownFlag(pub u8);
+
+impl fmt::Display for UnknownFlag {
+    fn fmt<W: fmt::Write>(&self, f: &mut fmt::Formatter<W>) -> fmt::Result {
+        write!(f, "no flag has number {}", self.0)
     }
 }
 
-// Whether op conjugates.
-pub fn conjugates(t: Trans) -> bool
-    ensures { result ≡ is_conj t }
-{
-    match t {
-        Trans::NoTrans => false,
-        Trans::Trans => false,
-        Trans::ConjTrans => true,
+impl Error for UnknownFlag {}
+
+impl TryFrom<u8> for Trans {
+    type Error = UnknownFlag;
+
+    ghost try_from_gives = { Decodes trans_in_range trans_of };
+
+    #[tactic(auto, unfolding(crate::specs::Flags::trans_of))]
+    fn try_from(n: u8) -> Result<Trans, UnknownFlag> {
+        match n {
+            0 => Ok(Trans::NoTrans),
+            1 => Ok(Trans::Trans),
+            2 => Ok(Trans::ConjTrans),
+            _ => Err(UnknownFlag(n)),
+        }
     }
 }
 
-// Where element k of a vector stands.
-pub fn vec_coord(v: View, k: usize) -> Coord
-    ensures { result ≡ vec_coord v k }
-{
-    if v.cols <= v.rows {
-        Coord { row: k, col: 0 }
-    } else {
-        Coord { row: 0, col: k }
+impl TryFrom<u8> for UpLo {
+    type Error = UnknownFlag;
+
+    ghost try_from_gives = { Decodes up_lo_in_range up_lo_of };
+
+    #[tactic(auto, unfolding(crate::specs::Flags::up_lo_of))]
+    fn try_from(n: u8) -> Result<UpLo, UnknownFlag> {
+        match n {
+            0 => Ok(UpLo::Upper),
+            1 => Ok(UpLo::Lower),
+            _ => Err(UnknownFlag(n)),
+        }
     }
 }
 
-// The same elements, with the columns no more than the rows.
-fn upright(v: View) -> View
-    ensures { result ≡ upright_of v }
-{
-    if v.cols <= v.rows { v } else { transposed(v) }
-}
+impl TryFrom<u8> for Side {
+    type Error = UnknownFlag;
 
-// A vector of n elements as one column.
-pub fn column(v: View, n: usize) -> View
-    requires { vector_of v n ≡ true }
-    ensures { result ≡ column_of v }
-{
-    let u = upright(v);
-    View {
-        start: u.start,
-        rows: n,
-        cols: 1,
-        rs: u.rs,
-        cs: 0,
+    ghost try_from_gives = { Decodes side_in_range side_of };
+
+    #[tactic(auto, unfolding(crate::specs::Flags::side_of))]
+    fn try_from(n: u8) -> Result<Side, UnknownFlag> {
+        match n {
+            0 => Ok(Side::Left),
+            1 => Ok(Side::Right),
+            _ => Err(UnknownFlag(n)),
+        }
     }
 }
 
-// The first column of row i in the named triangle.
-pub fn first_col(uplo: UpLo, i: usize) -> usize
-    ensures { result ≡ first_col uplo i }
-{
-    match uplo {
-        UpLo::Upper => i,
-        UpLo::Lower => 0,
-    }
-}
+impl TryFrom<u8> for Diag {
+    type Error = UnknownFlag;
 
-// The column after the last one, with n columns.
-pub fn end_col(uplo: UpLo, i: usize, n: usize) -> usize
-    requires { i < n }
-    ensures { result ≡ end_col uplo i n }
-{
-    match uplo {
-        UpLo::Upper => n,
-        UpLo::Lower => i + 1,
+    ghost try_from_gives = { Decodes diag_in_range diag_of };
+
+    #[tactic(auto, unfolding(crate::specs::Flags::diag_of))]
+    fn try_from(n: u8) -> Result<Diag, UnknownFlag> {
+        match n {
+            0 => Ok(Diag::NonUnit),
+            1 => Ok(Diag::Unit),
+            _ => Err(UnknownFlag(n)),
+        }
     }
 }
