@@ -1,6 +1,6 @@
 // What a number kind is: its operations, how its numbers lie in a slab, and its laws. A generic routine rests on these alone.
 
-ghost use Rattle.std.specs.Prelude.{◌≡◌, ◌<◌};
+ghost use Rattle.std.specs.Prelude.{◌≡◌, ◌<◌, ◌^◌};
 ghost use Rattle.number.specs.Kind.{Numbers, kind};
 ghost use Rattle.number.specs.Laws.{NumberLaws, SelfConjugate};
 ghost use Rattle.number.specs.Scaling.{Multipliers, beta_of, beta_real_of, scale_by};
@@ -68,9 +68,10 @@ pub trait Number: Copy {
     fn times(self, m: Self::Multiplier) -> Self
         ensures { result ≡ multipliers.times m self };
 
-    // How many elements a slab has.
+    // How many elements a slab has: fewer than 2 ^ 63.
     fn count(s: &[Self::Cell]) -> usize
-        ensures { result ≡ numbers.count s.now };
+        ensures counted { result ≡ numbers.count s.now }
+        ensures bounded { result < 2 ^ 63 };
 
     // Element k of a slab.
     fn get(s: &[Self::Cell], k: usize) -> Self
