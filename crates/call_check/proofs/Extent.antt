@@ -1,9 +1,12 @@
 -- The quick bounds test: the last place of a view is below the slab's end and the first is no less than 0, exactly where every
 -- element is inside.
 use mathlib.Core.Path.{◌≡◌, refl, sym}
-use mathlib.Core.Bool.{false}
-use Prim.Native.Nat.{ℕ, suc, ◌+◌, ◌-◌, ◌*◌, ◌/◌, ◌≤◌, ◌<◌, zero-le}
-use native.Mathlib.Nat.{mul-zero, zero-mul, mul_comm, le_refl, mul-le-mul_right, div-mul-le_self, div-lt_iff_lt-mul}
+use mathlib.Core.Bool.{Bool, true, false, not, ◌||◌}
+use lib.Dec.{leb}
+use borrow.Author.Tests.{leb-true, le-leb}
+use Rattle.view.proofs.AnyLaws.{clash, is_true}
+use Prim.Native.Nat.{ℕ, suc, ◌+◌, ◌-◌, ◌*◌, ◌≤◌, ◌<◌, zero-le}
+use native.Mathlib.Nat.{mul-zero, zero-mul, le_refl, mul-le-mul_right}
 use native.Mathlib.Omega.{arith}
 use lib.IntN.{ℤ, pos, negsuc}
 use Rattle.view.specs.declared.View.{View}
@@ -52,6 +55,24 @@ module _ (v : View) (len a b : ℕ) (p : v.rows ≡ suc a) (q : v.cols ≡ suc b
       let i = fits→inside v len h f.low g.low (omega (arith, f.low-le)) (omega (arith, g.low-le)) in
       omega (arith, i.low, f.low_up, f.low-down, g.low_up, g.low-down)
 
+-- some element is outside where one of the two tests fails
+pub outside_is : (v : View) (len : ℕ) → 0 < v.rows → 0 < v.cols → v.start < len
+    → out_of_bounds v len ≡ not (leb ((v.rows - 1) * up v.rs + (v.cols - 1) * up v.cs) (len - 1 - v.start)) || not (leb ((v.rows - 1) * down v.rs + (v.cols - 1) * down v.cs) v.start)
+outside_is v len p q s =
+    at (leb ((v.rows - 1) * up v.rs + (v.cols - 1) * up v.cs) (len - 1 - v.start)) refl
+    (leb ((v.rows - 1) * down v.rs + (v.cols - 1) * down v.cs) v.start) refl
+  where
+    at : (h : Bool) → leb ((v.rows - 1) * up v.rs + (v.cols - 1) * up v.cs) (len - 1 - v.start) ≡ h
+        → (l : Bool) → leb ((v.rows - 1) * down v.rs + (v.cols - 1) * down v.cs) v.start ≡ l → out_of_bounds v len ≡ not h || not l
+    at true h true l =
+        extent-fits v len (v.rows - 1) (v.cols - 1) (omega arith) (omega arith) s (leb-true _ _ h) (leb-true _ _ l)
+    at true h false l =
+        is_true (out_of_bounds v len)
+        (λ f. clash (le-leb _ _ (extent-low v len (v.rows - 1) (v.cols - 1) (omega arith) (omega arith) s f)) l)
+    at false h l k =
+        is_true (out_of_bounds v len)
+        (λ f. clash (le-leb _ _ (extent-high v len (v.rows - 1) (v.cols - 1) (omega arith) (omega arith) s f)) h)
+
 -- an empty shape fits any slab
 pub no_rows : (v : View) (len : ℕ) → v.rows ≡ 0 → out_of_bounds v len ≡ false
 no_rows v len h = at-fits v len (λ r c p q. absurd (empty r p))
@@ -71,10 +92,7 @@ starts-out v len p q h f =
     let i = fits→inside v len f 0 0 (omega arith) (omega arith) in
     omega (arith, i.high, zero-mul (up v.rs), zero-mul (up v.cs), zero-mul (down v.rs), zero-mul (down v.cs))
 
--- ---- a product against a bound, by the quotient
+pub start-past : (v : View) (len : ℕ) → (v.rows ≡ 0 → ⊥) → (v.cols ≡ 0 → ⊥) → len ≤ v.start → out_of_bounds v len ≡ true
+start-past v len p q h = is_true (out_of_bounds v len) (starts-out v len p q h)
 
-pub quotient-below : (room a x : ℕ) → (a ≡ 0 → ⊥) → room / a < x → room < a * x
-quotient-below room a x p h = omega (arith, (div-lt_iff_lt-mul {k = a} {x = room} {y = x} (omega arith)).0 h, mul_comm x a)
-
-pub quotient-above : (room a x : ℕ) → x ≤ room / a → a * x ≤ room
-quotient-above room a x h = omega (arith, div-mul-le_self room a, mul-le-mul_right a h, mul_comm x a)
+pub ruleset quick_cases = (no_rows, no-cols, start-past)

@@ -4,10 +4,12 @@ use mathlib.Core.Bool.{true, false}
 use Prim.Native.Nat.{ℕ, zero, suc, ◌+◌, ◌-◌, ◌*◌, ◌/◌, ◌%◌, ◌≤◌, ◌<◌}
 use native.Mathlib.Nat.{mul-zero, zero-mul, one-mul, mul-pos, mul-le-mul_right, div-add-mod', mod-lt}
 use native.Mathlib.Decide.{dec_lt}
+use lib.Dec.{leb}
+use borrow.Author.Tests.{leb-true}
 use native.Mathlib.Omega.{arith}
 use Rattle.view.proofs.AnyLaws.{both_ways}
 use Rattle.view.specs.Steps.{meets}
-use Rattle.view.proofs.OverlapLaws.{Meeting, meets→meeting, meeting→meets, no-meeting}
+use Rattle.view.proofs.OverlapLaws.{overlaps-is, Meeting, meets→meeting, meeting→meets, no-meeting}
 
 -- ---- single steps, and strides that are far apart
 
@@ -63,6 +65,38 @@ each-past rows x cols y p h m = at y p h m.k m.d m.d-lt m.some m.same
     at y p h (suc k) d q s e =
         let l : d ≤ cols - 1 = omega arith in
         omega (arith, mul-le-mul_right y l, mul-le-mul_right {m = 1} {n = suc k} x (omega arith), one-mul x)
+
+-- ---- the cases that need no multiples
+
+pub no-rows : (rows x cols y : ℕ) → rows ≡ 0 → meets rows x cols y ≡ false
+no-rows rows x cols y e = sym (missing rows x cols y (λ m. omega (arith, m.k_lt)))
+
+pub no-cols : (rows x cols y : ℕ) → cols ≡ 0 → meets rows x cols y ≡ false
+no-cols rows x cols y e = sym (missing rows x cols y (λ m. omega (arith, m.d-lt)))
+
+pub single-row : (rows x cols y : ℕ) → rows ≡ 1 → meets rows x cols y ≡ meets 1 0 cols y
+single-row rows x cols y e = sym (one-row rows x cols y e)
+
+pub single-col : (rows x cols y : ℕ) → cols ≡ 1 → meets rows x cols y ≡ meets 1 0 rows x
+single-col rows x cols y e = turned rows x cols y ∙ sym (one-row cols y rows x e)
+
+pub still-rows : (rows x cols y : ℕ) → x ≡ 0 → 1 < rows → 0 < cols → meets rows x cols y ≡ true
+still-rows rows x cols y e p q = sym (found rows x cols y 1 0 p q (omega arith) (one-mul x ∙ e ∙ sym (zero-mul y)))
+
+pub still-cols : (rows x cols y : ℕ) → y ≡ 0 → 0 < rows → 1 < cols → meets rows x cols y ≡ true
+still-cols rows x cols y e p q = sym (found rows x cols y 0 1 p q (omega arith) (zero-mul x ∙ sym (one-mul y ∙ e)))
+
+pub far-rows : (rows x cols y : ℕ) → leb ((cols - 1) * y) (x - 1) ≡ true → 0 < x → 0 < y → meets rows x cols y ≡ false
+far-rows rows x cols y h p q =
+    sym (missing rows x cols y (far_apart rows x cols y q (omega (arith, leb-true ((cols - 1) * y) (x - 1) h))))
+
+pub far-cols : (rows x cols y : ℕ) → leb ((rows - 1) * x) (y - 1) ≡ true → 0 < x → 0 < y → meets rows x cols y ≡ false
+far-cols rows x cols y h p q = turned rows x cols y ∙ far-rows cols y rows x h q p
+
+pub ruleset cases = (no-rows, no-cols, single-row, single-col, still-rows, still-cols, far-rows, far-cols)
+
+-- two elements share a place where a multiple of one stride's size is one of the other's
+pub ruleset sizes = overlaps-is
 
 -- ---- one multiple of x after the other
 

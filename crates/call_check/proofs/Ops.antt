@@ -13,7 +13,7 @@ use Rattle.view.specs.Steps.{Accepted}
 use Rattle.view.proofs.JudgeLaws.{judge-passed}
 use Rattle.view.specs.Checks.{op_rows, op_cols, vector_of, gemv_shape, gemm_shape, gemv_check, gemm_check}
 use Rattle.call_check.specs.Quick.{quick_gemv, quick_gemm}
-use Rattle.call_check.proofs.Passes.{pass3, quick-gemv-passes, quick-gemm-passes}
+use Rattle.call_check.proofs.Passes.{pass3, quick-gemv-passes, quick-hemv-passes, quick-her-passes, quick-her2-passes, quick-trmv-passes, quick-gemm-passes, quick-symm-passes, quick-syrk-passes, quick-syr2k-passes, quick-trmm-passes}
 
 op-rows-are : (t : Trans) (a : View) → op_rows NoTrans (op_view_of t a) ≡ op_rows t a
 op-rows-are NoTrans a = refl
@@ -48,3 +48,6 @@ pub quick-gemv-passes-op : (t : Trans) (a : View) (la : ℕ) (x : View) (lx : �
 quick-gemv-passes-op t a la x lx y ly h =
     let p = judge-passed _ _ _ (quick-gemv-passes (op_view_of t a) la x lx y ly h) in
     pass3 a la x lx y ly (sym (gemv-shape-is t a x y) ∙ p.shape) (accepted-back t a la p.each.0) p.each.1.0 p.each.1.1.0 p.distinct
+
+-- the laws of all quick tests
+pub ruleset passes = (quick-gemv-passes-op, quick-hemv-passes, quick-her-passes, quick-her2-passes, quick-trmv-passes, quick-gemm-passes-op, quick-symm-passes, quick-syrk-passes, quick-syr2k-passes, quick-trmm-passes)

@@ -87,3 +87,20 @@ reach-le n z r =
 pub reaches-short : (start n : ℕ) (z : ℤ) (len : ℕ) → reaches start n z len ≡ true → short z ≡ true
 unfolding reaches
 reaches-short start n z len h = search each
+
+-- ---- the same facts, one by one
+
+pub few-some : (n : ℕ) → few n ≡ true → 1 ≤ n
+few-some n h = omega (arith, (few-is n h).some)
+
+pub short-up : (z : ℤ) → short z ≡ true → z ≡ pos (up z)
+unfolding short
+short-up (pos n) h = refl
+short-up (negsuc n) h = absurd (false≢true h)
+
+pub short-below : (z : ℤ) → short z ≡ true → up z < 2 ^ 30
+short-below z h = (short-is z h).below
+
+pub ruleset strides = (few-some, short-up, short-below, reach-le)
+
+pub ruleset leading = (reaches-short, leads-is)

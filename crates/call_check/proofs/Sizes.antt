@@ -91,3 +91,9 @@ syr2k-target t a b c h s =
     let z = syr2k-sizes t a b c h in
     let n = op-few t a s in
     sized c (op_rows t a) (op_rows t a) z.2 z.3 n n
+
+-- ---- what a quick test asks of the sizes, where an earlier part of it has passed
+
+pub ruleset sizes = (small-rows, small-cols, square-rows, square-small)
+
+pub ruleset beside = (gemm-left, gemm-right, trmm-left, symm-left, symm-right, syrk-target, syr2k-right, syr2k-target)

@@ -14,7 +14,7 @@ pub use mir.Syntax.{w64}
 pub use mir.Val.{Fits, SFits, of_z, to_z}
 pub use borrow.Author.Rules.{rules}
 pub use borrow.Author.Tests.{eq-eqb, le-leb, le-ltb, leb-true, lt-leb, lt-ltb, ltb-true, ne_eqb}
-pub use Rattle.call_check.proofs.Extent.{extent-fits, extent-high, extent-low, no-cols, no_rows, quotient-above, quotient-below, starts-out}
+pub use Rattle.call_check.proofs.Extent.{extent-fits, extent-high, extent-low, no-cols, no_rows, starts-out}
 pub use Rattle.call_check.proofs.Multiples.{At, carry, far_apart, first, flip, found, missing, none-meet, one-row, past, past_next, no-carry, turned}
 pub use Rattle.call_check.proofs.Ops.{quick-gemm-passes-op, quick-gemv-passes-op}
 pub use Rattle.call_check.proofs.Parts.{answer_back, same-judge, twice}

@@ -9,29 +9,16 @@ pub mod quick;
 mod shapes;
 mod sharing;
 
-ghost use Rattle.std.specs.Prelude.{◌≡◌, ◌||◌, true, false, [], ◌∷◌};
-ghost use Rattle.view.specs.Judge.{answer_number, answer_of, arg, judge, lowest_of};
-ghost use Rattle.view.specs.Place.{view_of, op_view_of};
+ghost use Rattle.std.specs.Prelude.{◌≡◌, [], ◌∷◌};
+ghost use Rattle.view.specs.Judge.{arg, judge, lowest_of};
+ghost use Rattle.view.specs.Place.{op_view_of};
 ghost use Rattle.view.specs.Checks as specs;
 ghost use Rattle.call_check.specs.Quick.{quick_gemv, quick_hemv, quick_her, quick_her2, quick_trmv, quick_gemm, quick_symm, quick_syrk, quick_syr2k, quick_trmm};
 
 use crate::bounds::{out_of_bounds, too_large};
 use crate::sharing::overlap;
 pub use bounds::LIMIT;
-use view::{Answer, Side, Trans, View, number, view_of};
-
-// Whether one of three tests passed.
-fn one_of(p: bool, q: bool, r: bool) -> bool
-    ensures { result ≡ p || (q || (r || false)) }
-{
-    if p {
-        true
-    } else if q {
-        true
-    } else {
-        r
-    }
-}
+use view::{Answer, Side, Trans, View};
 
 // The lowest refusal met, by whether some view is too large, some is out of bounds, and the shapes are wrong.
 fn lowest(large: bool, out: bool, wrong: bool, target: View) -> Answer
@@ -50,98 +37,36 @@ fn lowest(large: bool, out: bool, wrong: bool, target: View) -> Answer
     }
 }
 
-// The lowest refusal of a call with three views, the third its target.
-fn judged(a: View, la: usize, b: View, lb: usize, c: View, lc: usize, shapes: bool) -> Answer
-    ensures { result ≡ judge (arg a la ∷ arg b lb ∷ arg c lc ∷ []) shapes c }
-{
-    let large = one_of(too_large(a), too_large(b), too_large(c));
-    let out = one_of(
-        out_of_bounds(a, la),
-        out_of_bounds(b, lb),
-        out_of_bounds(c, lc),
-    );
-    lowest(large, out, !shapes, c)
-}
-
-// Its number. Views come in parts: whoever calls then need not store them.
-fn number_of(
-    astart: usize,
-    arows: usize,
-    acols: usize,
-    ars: i64,
-    acs: i64,
-    alen: usize,
-    bstart: usize,
-    brows: usize,
-    bcols: usize,
-    brs: i64,
-    bcs: i64,
-    blen: usize,
-    cstart: usize,
-    crows: usize,
-    ccols: usize,
-    crs: i64,
-    ccs: i64,
-    clen: usize,
-    shapes: bool,
-) -> u8
-    ensures { result ≡ answer_number (judge (arg (view_of astart arows acols ars acs) alen ∷ arg (view_of bstart brows bcols brs bcs) blen ∷ arg (view_of cstart crows ccols crs ccs) clen ∷ []) shapes (view_of cstart crows ccols crs ccs)) }
-{
-    let a = view_of(astart, arows, acols, ars, acs);
-    let b = view_of(bstart, brows, bcols, brs, bcs);
-    let c = view_of(cstart, crows, ccols, crs, ccs);
-    number(judged(a, alen, b, blen, c, clen, shapes))
-}
-
-// The answer of a number.
-fn answer_of(n: u8) -> Answer
-    ensures { result ≡ answer_of n }
-{
-    match n {
-        0 => Answer::Done,
-        1 => Answer::TooLarge,
-        2 => Answer::OutOfBounds,
-        3 => Answer::ShapeMismatch,
-        4 => Answer::Overlap,
-        _ => Answer::Singular,
-    }
-}
-
-// A call with two views, the second its target: it is judged as one that has the second twice. Where the flags are out of their
-// range no shapes go together.
+// A call with two views, the second its target. Where the flags are out of their range no shapes go together.
+#[tactic(auto, unfolding(view::specs::Judge::judge))]
 pub fn judge2(a: View, la: usize, b: View, lb: usize, shapes: bool) -> Answer
     ensures { result ≡ judge (arg a la ∷ arg b lb ∷ []) shapes b }
 {
-    answer_of(number_of(
-        a.start, a.rows, a.cols, a.rs, a.cs, la, b.start, b.rows, b.cols, b.rs, b.cs, lb, b.start,
-        b.rows, b.cols, b.rs, b.cs, lb, shapes,
-    ))
+    let large = too_large(a) || too_large(b);
+    let out = out_of_bounds(a, la) || out_of_bounds(b, lb);
+    lowest(large, out, !shapes, b)
 }
 
 // A call with three views, the third its target.
+#[tactic(auto, unfolding(view::specs::Judge::judge))]
 pub fn judge3(a: View, la: usize, b: View, lb: usize, c: View, lc: usize, shapes: bool) -> Answer
     ensures { result ≡ judge (arg a la ∷ arg b lb ∷ arg c lc ∷ []) shapes c }
 {
-    answer_of(number_of(
-        a.start, a.rows, a.cols, a.rs, a.cs, la, b.start, b.rows, b.cols, b.rs, b.cs, lb, c.start,
-        c.rows, c.cols, c.rs, c.cs, lc, shapes,
-    ))
+    let large = too_large(a) || too_large(b) || too_large(c);
+    let out = out_of_bounds(a, la) || out_of_bounds(b, lb) || out_of_bounds(c, lc);
+    lowest(large, out, !shapes, c)
 }
 
 // A view that is only read, by itself: no shape rule looks at it, and nothing is written.
+#[tactic(auto, unfolding(view::specs::Judge::judge))]
 pub fn check_read(v: View, len: usize) -> Answer
     ensures { result ≡ specs.read_check v len }
 {
-    let none = View {
-        start: 0,
-        rows: 0,
-        cols: 0,
-        rs: 0,
-        cs: 0,
-    };
+    let none = View::new(0, 0, 0, 0, 0);
     lowest(too_large(v), out_of_bounds(v, len), false, none)
 }
 
+#[tactic(auto, using(crate::proofs::Ops::passes))]
 pub fn check_gemv(
     quick: bool,
     t: Trans,
@@ -162,6 +87,7 @@ pub fn check_gemv(
     }
 }
 
+#[tactic(auto, using(crate::proofs::Ops::passes))]
 pub fn check_hemv(quick: bool, a: View, la: usize, x: View, lx: usize, y: View, ly: usize) -> Answer
     requires { quick ≡ quick_hemv a la x lx y ly }
     ensures { result ≡ specs.hemv_check a la x lx y ly }
@@ -173,6 +99,7 @@ pub fn check_hemv(quick: bool, a: View, la: usize, x: View, lx: usize, y: View, 
     }
 }
 
+#[tactic(auto, using(crate::proofs::Ops::passes))]
 pub fn check_her(quick: bool, x: View, lx: usize, a: View, la: usize) -> Answer
     requires { quick ≡ quick_her x lx a la }
     ensures { result ≡ specs.her_check x lx a la }
@@ -184,6 +111,7 @@ pub fn check_her(quick: bool, x: View, lx: usize, a: View, la: usize) -> Answer
     }
 }
 
+#[tactic(auto, using(crate::proofs::Ops::passes))]
 pub fn check_her2(quick: bool, x: View, lx: usize, y: View, ly: usize, a: View, la: usize) -> Answer
     requires { quick ≡ quick_her2 x lx y ly a la }
     ensures { result ≡ specs.her2_check x lx y ly a la }
@@ -195,6 +123,7 @@ pub fn check_her2(quick: bool, x: View, lx: usize, y: View, ly: usize, a: View, 
     }
 }
 
+#[tactic(auto, using(crate::proofs::Ops::passes))]
 pub fn check_trmv(quick: bool, a: View, la: usize, x: View, lx: usize) -> Answer
     requires { quick ≡ quick_trmv a la x lx }
     ensures { result ≡ specs.trmv_check a la x lx }
@@ -213,6 +142,7 @@ pub fn check_trsv(quick: bool, a: View, la: usize, x: View, lx: usize) -> Answer
     check_trmv(quick, a, la, x, lx)
 }
 
+#[tactic(auto, using(crate::proofs::Ops::passes))]
 pub fn check_gemm(
     quick: bool,
     ta: Trans,
@@ -234,6 +164,7 @@ pub fn check_gemm(
     }
 }
 
+#[tactic(auto, using(crate::proofs::Ops::passes))]
 pub fn check_symm(
     quick: bool,
     side: Side,
@@ -270,6 +201,7 @@ pub fn check_hemm(
     check_symm(quick, side, a, la, b, lb, c, lc)
 }
 
+#[tactic(auto, using(crate::proofs::Ops::passes))]
 pub fn check_syrk(quick: bool, t: Trans, a: View, la: usize, c: View, lc: usize) -> Answer
     requires { quick ≡ quick_syrk t a la c lc }
     ensures { result ≡ specs.syrk_check t a la c lc }
@@ -288,6 +220,7 @@ pub fn check_herk(quick: bool, t: Trans, a: View, la: usize, c: View, lc: usize)
     check_syrk(quick, t, a, la, c, lc)
 }
 
+#[tactic(auto, using(crate::proofs::Ops::passes))]
 pub fn check_syr2k(
     quick: bool,
     t: Trans,
@@ -324,6 +257,7 @@ pub fn check_her2k(
     check_syr2k(quick, t, a, la, b, lb, c, lc)
 }
 
+#[tactic(auto, using(crate::proofs::Ops::passes))]
 pub fn check_trmm(quick: bool, side: Side, a: View, la: usize, b: View, lb: usize) -> Answer
     requires { quick ≡ quick_trmm side a la b lb }
     ensures { result ≡ specs.trmm_check side a la b lb }

@@ -1,6 +1,6 @@
 // Quick tests that pass calls as most are: views of at least one element, with small starts and with strides that are small and not negative.
 // What each answers is a definition (specs/Quick). A call that one passes is not refused; one that they do not pass is judged in full.
-ghost use Rattle.std.specs.Prelude.{◌≡◌, true};
+ghost use Rattle.std.specs.Prelude.{◌≡◌, true, ◌≤◌, ◌^◌};
 ghost use Rattle.call_check.specs.Quick as specs;
 
 use crate::bounds::LIMIT;
@@ -8,28 +8,27 @@ use crate::shapes;
 use view::{Side, Trans, View};
 
 // Whether n is at least 1 and within the limit.
+#[tactic(auto, unfolding(crate::specs::Quick::few))]
 fn few(n: usize) -> bool
     ensures { result ≡ specs.few n }
 {
-    if n == 0 { false } else { n - 1 < LIMIT }
+    0 < n && n <= LIMIT
 }
 
 // Whether a view has a few rows and columns.
+#[tactic(auto, unfolding(crate::specs::Quick::small))]
 fn small(v: View) -> bool
     ensures { result ≡ specs.small v }
 {
-    if few(v.rows) { few(v.cols) } else { false }
+    few(v.rows) && few(v.cols)
 }
 
 // Whether a stride is not negative and below 2 ^ 30.
+#[tactic(auto, unfolding(crate::specs::Quick::short))]
 fn short(z: i64) -> bool
     ensures { result ≡ specs.short z }
 {
-    if z < 0 {
-        false
-    } else {
-        (z as usize) < 0x4000_0000
-    }
+    0 <= z && z < 0x4000_0000
 }
 
 // Whether a start is below 2 ^ 30.
@@ -40,96 +39,71 @@ fn near(start: usize) -> bool
 }
 
 // From the first of n elements to the last.
+#[tactic(auto, using(crate::proofs::Runs::strides))]
 fn reach(n: usize, z: i64) -> usize
     requires { specs.Run n z }
-    ensures { result ≡ specs.reach n z }
+    ensures value { result ≡ specs.reach n z }
+    ensures bound { result ≤ 2 ^ 36 }
 {
     (n - 1) * z as usize
 }
 
-// Whether the last element, too, is below the slab's end.
-fn ends(start: usize, rows: usize, cols: usize, rs: i64, cs: i64, len: usize) -> bool
-    requires { (specs.near start ≡ true) × specs.Run rows rs × specs.Run cols cs }
-    ensures { result ≡ specs.ends start rows cols rs cs len }
-{
-    start + (reach(rows, rs) + reach(cols, cs)) < len
-}
-
 // Whether a matrix is in bounds.
+#[tactic(auto, using(crate::proofs::Sizes::sizes), unfolding(crate::specs::Quick::plain))]
 fn plain(v: View, len: usize) -> bool
     requires { specs.small v ≡ true }
     ensures { result ≡ specs.plain v len }
 {
-    if near(v.start) {
-        if short(v.rs) {
-            if short(v.cs) {
-                return ends(v.start, v.rows, v.cols, v.rs, v.cs, len);
-            }
-        }
-    }
-    false
+    near(v.start)
+        && short(v.rs)
+        && short(v.cs)
+        && v.start + (reach(v.rows, v.rs) + reach(v.cols, v.cs)) < len
 }
 
 // Whether each row is past the one before it, or each column, neither standing still.
-fn apart(rows: usize, cols: usize, rs: i64, cs: i64) -> bool
-    requires { specs.Run rows rs × specs.Run cols cs }
-    ensures { result ≡ specs.apart rows cols rs cs }
+#[tactic(auto, using(crate::proofs::Runs::strides), unfolding(crate::specs::Quick::apart))]
+fn apart(v: View) -> bool
+    requires { specs.Run v.rows v.rs × specs.Run v.cols v.cs }
+    ensures { result ≡ specs.apart v.rows v.cols v.rs v.cs }
 {
-    let across = reach(cols, cs);
-    if across < rs as usize {
-        return cs != 0;
-    }
-    let along = reach(rows, rs);
-    if along < cs as usize {
-        return rs != 0;
-    }
-    false
+    reach(v.cols, v.cs) < v.rs as usize && v.cs != 0
+        || reach(v.rows, v.rs) < v.cs as usize && v.rs != 0
 }
 
 // Whether a matrix that is written is in bounds, each element on a place of its own.
+#[tactic(auto, unfolding(crate::specs::Quick::written, crate::specs::Quick::plain, crate::specs::Quick::small))]
 fn written(v: View, len: usize) -> bool
     requires { specs.small v ≡ true }
     ensures { result ≡ specs.written v len }
 {
-    if plain(v, len) {
-        apart(v.rows, v.cols, v.rs, v.cs)
-    } else {
-        false
-    }
+    plain(v, len) && apart(v)
 }
 
 // The stride along a vector of length n; -1 for what is none.
+#[tactic(auto, unfolding(crate::specs::Quick::stride_of))]
 fn stride_of(v: View, n: usize) -> i64
     ensures { result ≡ specs.stride_of v n }
 {
-    if v.cols == 1 {
-        if v.rows == n {
-            return v.rs;
-        }
-        return -1;
+    if v.cols == 1 && v.rows == n {
+        v.rs
+    } else if v.rows == 1 && v.cols == n {
+        v.cs
+    } else {
+        -1
     }
-    if v.rows == 1 {
-        if v.cols == n {
-            return v.cs;
-        }
-    }
-    -1
 }
 
 // Whether n elements from a start, by a stride, are in bounds.
+#[tactic(auto, unfolding(crate::specs::Quick::reaches))]
 fn reaches(start: usize, n: usize, z: i64, len: usize) -> bool
     requires { specs.few n ≡ true }
     ensures { result ≡ specs.reaches start n z len }
 {
-    if near(start) {
-        if short(z) {
-            return start + reach(n, z) < len;
-        }
-    }
-    false
+    near(start) && short(z) && start + reach(n, z) < len
 }
 
 // Whether a vector of length n is in bounds.
+#[tactic(auto, unfolding(crate::specs::Quick::plain_vector))]
 fn vector(v: View, n: usize, len: usize) -> bool
     requires { specs.few n ≡ true }
     ensures { result ≡ specs.plain_vector v n len }
@@ -138,162 +112,101 @@ fn vector(v: View, n: usize, len: usize) -> bool
 }
 
 // The same of a vector that is written, each element on a place of its own.
+#[tactic(auto, using(crate::proofs::Runs::leading), unfolding(crate::specs::Quick::plain_vector, crate::specs::Quick::written_vector))]
 fn vector_target(v: View, n: usize, len: usize) -> bool
     requires { specs.few n ≡ true }
     ensures { result ≡ specs.written_vector v n len }
 {
     let z = stride_of(v, n);
-    if reaches(v.start, n, z, len) {
-        z != 0
-    } else {
-        false
-    }
+    reaches(v.start, n, z, len) && z != 0
 }
 
 // Whether a matrix is square.
+#[tactic(auto, unfolding(crate::specs::Quick::square))]
 fn square(a: View) -> bool
     ensures { result ≡ specs.square a }
 {
-    if few(a.rows) { a.cols == a.rows } else { false }
+    few(a.rows) && a.cols == a.rows
 }
 
 // gemv, of the view of op(A).
+#[tactic(auto, using(crate::proofs::Sizes::sizes), unfolding(crate::specs::Quick::quick_gemv))]
 pub fn quick_gemv(a: View, la: usize, x: View, lx: usize, y: View, ly: usize) -> bool
     ensures { result ≡ specs.quick_gemv a la x lx y ly }
 {
-    if small(a) {
-        if plain(a, la) {
-            if vector(x, a.cols, lx) {
-                return vector_target(y, a.rows, ly);
-            }
-        }
-    }
-    false
+    small(a) && plain(a, la) && vector(x, a.cols, lx) && vector_target(y, a.rows, ly)
 }
 
+#[tactic(auto, using(crate::proofs::Sizes::sizes), unfolding(crate::specs::Quick::quick_hemv))]
 pub fn quick_hemv(a: View, la: usize, x: View, lx: usize, y: View, ly: usize) -> bool
     ensures { result ≡ specs.quick_hemv a la x lx y ly }
 {
-    if square(a) {
-        if plain(a, la) {
-            if vector(x, a.rows, lx) {
-                return vector_target(y, a.rows, ly);
-            }
-        }
-    }
-    false
+    square(a) && plain(a, la) && vector(x, a.rows, lx) && vector_target(y, a.rows, ly)
 }
 
+#[tactic(auto, using(crate::proofs::Sizes::sizes), unfolding(crate::specs::Quick::quick_her))]
 pub fn quick_her(x: View, lx: usize, a: View, la: usize) -> bool
     ensures { result ≡ specs.quick_her x lx a la }
 {
-    if square(a) {
-        if vector(x, a.rows, lx) {
-            return written(a, la);
-        }
-    }
-    false
+    square(a) && vector(x, a.rows, lx) && written(a, la)
 }
 
+#[tactic(auto, using(crate::proofs::Sizes::sizes), unfolding(crate::specs::Quick::quick_her2))]
 pub fn quick_her2(x: View, lx: usize, y: View, ly: usize, a: View, la: usize) -> bool
     ensures { result ≡ specs.quick_her2 x lx y ly a la }
 {
-    if square(a) {
-        if vector(x, a.rows, lx) {
-            if vector(y, a.rows, ly) {
-                return written(a, la);
-            }
-        }
-    }
-    false
+    square(a) && vector(x, a.rows, lx) && vector(y, a.rows, ly) && written(a, la)
 }
 
 // trmv and trsv.
+#[tactic(auto, using(crate::proofs::Sizes::sizes), unfolding(crate::specs::Quick::quick_trmv))]
 pub fn quick_trmv(a: View, la: usize, x: View, lx: usize) -> bool
     ensures { result ≡ specs.quick_trmv a la x lx }
 {
-    if square(a) {
-        if plain(a, la) {
-            return vector_target(x, a.rows, lx);
-        }
-    }
-    false
+    square(a) && plain(a, la) && vector_target(x, a.rows, lx)
 }
 
 // gemm, of the views of op(A) and op(B).
+#[tactic(auto, using(crate::proofs::Sizes::beside), unfolding(crate::specs::Quick::quick_gemm))]
 pub fn quick_gemm(a: View, la: usize, b: View, lb: usize, c: View, lc: usize) -> bool
     ensures { result ≡ specs.quick_gemm a la b lb c lc }
 {
-    if small(c) {
-        if few(a.cols) {
-            if shapes::gemm(Trans::NoTrans, Trans::NoTrans, a, b, c) {
-                if written(c, lc) {
-                    if plain(a, la) {
-                        return plain(b, lb);
-                    }
-                }
-            }
-        }
-    }
-    false
+    small(c)
+        && few(a.cols)
+        && shapes::gemm(Trans::NoTrans, Trans::NoTrans, a, b, c)
+        && written(c, lc)
+        && plain(a, la)
+        && plain(b, lb)
 }
 
 // symm and hemm.
+#[tactic(auto, using(crate::proofs::Sizes::beside), unfolding(crate::specs::Quick::quick_symm))]
 pub fn quick_symm(side: Side, a: View, la: usize, b: View, lb: usize, c: View, lc: usize) -> bool
     ensures { result ≡ specs.quick_symm side a la b lb c lc }
 {
-    if shapes::symm(side, a, b, c) {
-        if small(c) {
-            if plain(a, la) {
-                if plain(b, lb) {
-                    return written(c, lc);
-                }
-            }
-        }
-    }
-    false
+    shapes::symm(side, a, b, c) && small(c) && plain(a, la) && plain(b, lb) && written(c, lc)
 }
 
 // syrk and herk.
+#[tactic(auto, using(crate::proofs::Sizes::beside), unfolding(crate::specs::Quick::quick_syrk))]
 pub fn quick_syrk(t: Trans, a: View, la: usize, c: View, lc: usize) -> bool
     ensures { result ≡ specs.quick_syrk t a la c lc }
 {
-    if small(a) {
-        if shapes::syrk(t, a, c) {
-            if plain(a, la) {
-                return written(c, lc);
-            }
-        }
-    }
-    false
+    small(a) && shapes::syrk(t, a, c) && plain(a, la) && written(c, lc)
 }
 
 // syr2k and her2k.
+#[tactic(auto, using(crate::proofs::Sizes::beside), unfolding(crate::specs::Quick::quick_syr2k))]
 pub fn quick_syr2k(t: Trans, a: View, la: usize, b: View, lb: usize, c: View, lc: usize) -> bool
     ensures { result ≡ specs.quick_syr2k t a la b lb c lc }
 {
-    if small(a) {
-        if shapes::syr2k(t, a, b, c) {
-            if plain(a, la) {
-                if plain(b, lb) {
-                    return written(c, lc);
-                }
-            }
-        }
-    }
-    false
+    small(a) && shapes::syr2k(t, a, b, c) && plain(a, la) && plain(b, lb) && written(c, lc)
 }
 
 // trmm and trsm.
+#[tactic(auto, using(crate::proofs::Sizes::beside), unfolding(crate::specs::Quick::quick_trmm))]
 pub fn quick_trmm(side: Side, a: View, la: usize, b: View, lb: usize) -> bool
     ensures { result ≡ specs.quick_trmm side a la b lb }
 {
-    if small(b) {
-        if shapes::trmm(side, a, b) {
-            if plain(a, la) {
-                return written(b, lb);
-            }
-        }
-    }
-    false
+    small(b) && shapes::trmm(side, a, b) && plain(a, la) && written(b, lb)
 }

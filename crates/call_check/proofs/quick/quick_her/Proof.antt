@@ -1,9 +1,0 @@
--- `quick_her` meets its contract, by those of its parts.
-use Rattle.call_check.proofs.Words.{rules, quick_her, ways, told, square-rows, square-small}
-use Rattle.call_check.proofs.quick.quick_her.Statement.{statement}
-use Rattle.call_check.proofs.quick.quick_her.Tie as tie
-
-pub quick_her_spec : {M : Type 1} → statement M
-unfolding quick_her
-quick_her_spec = tie.close (tie.spec
-    (search rules) (λ c κs. search (told, square-rows)) (λ c κs. search (told, square-small)) (λ c. search ways) (λ c. search ways) (λ c. search ways))
