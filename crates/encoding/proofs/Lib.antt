@@ -1,6 +1,4 @@
 -- Lemmas that several proofs of the crate cite; the laws of bytes and of stores, which other crates cite too.
 mod Nan
-mod Complement
 pub mod LittleLaws
 pub mod StoredLaws
-mod Words

@@ -1,42 +1,22 @@
--- NaNs, by the test of a number against itself and by their bit patterns. Assumes nothing.
-use mathlib.Core.Path.{◌≡◌, refl, sym, subst, ◌∙◌}
-use mathlib.Core.Bool.{Bool, true, false, not}
-use Prim.Native.Nat.{ℕ}
-use lib.Dec.{T, eqb}
-use lib.Ieee.{Float, Format, binary32, binary64, nan, inf, fin, is_nan, ne, nan_bits, of_bits, to_bits, div}
+-- NaNs and their bit patterns. Assumes nothing.
+use Rattle.std.proofs.Common.{◌≡◌, refl, sym, subst, ◌∙◌, true, ℕ, T}
+use Rattle.std.specs.Prelude.{Float}
+use Rattle.std.specs.Float.{Format, binary64, nan}
+use Rattle.std.specs.Float.Ieee.{is_nan, nan_bits, of_bits, to_bits}
+use lib.Ieee.{inf, fin}
 use lib.Ieee.Bits.{nan_bits_is}
-use lib.Ieee.Compare.{differs_from_itself}
-use Rattle.encoding.specs.Alike.{alike}
 
--- a number that differs from itself is a NaN: it is alike to the NaNs' patterns
-pub alike-nan : (f : Format) (x : Float) (n : ℕ) → ne x x ≡ true → nan_bits f n ≡ alike f x n
-unfolding is_nan
-alike-nan f x n h = subst (λ (y : Float). nan_bits f n ≡ alike f y n) (sym (differs_from_itself x (subst T (sym h) tt))) refl
-
-pub equals : (x : Float) → ne x x ≡ false → is_nan x ≡ false
-unfolding is_nan ne
-equals nan h = h
-equals (inf s) h = refl
-equals (fin s m e) h = refl
-
-pub alike-bits : (f : Format) (x : Float) (n : ℕ) → ne x x ≡ false → eqb (to_bits f x) n ≡ alike f x n
-alike-bits f x n h = rw (equals x h)
-
-only_nan : (x : Float) → is_nan x ≡ true → x ≡ nan
+pub only_nan : (x : Float) → true ≡ is_nan x → x ≡ nan
 unfolding is_nan
 only_nan nan h = refl
-only_nan (inf s) h = absurd (subst (λ (b : Bool). T (not b)) h tt)
-only_nan (fin s m e) h = absurd (subst (λ (b : Bool). T (not b)) h tt)
+only_nan (inf s) h = absurd (subst T h tt)
+only_nan (fin s m e) h = absurd (subst T h tt)
 
-zero_by_zero : (f : Format) → div f (of_bits f 0) (of_bits f 0) ≡ nan
-unfolding div of_bits
-zero_by_zero binary32 = refl
-zero_by_zero binary64 = refl
+-- the patterns of NaNs are all of one number
+pub same_nan : (f : Format) (m n : ℕ) → true ≡ nan_bits f m → true ≡ nan_bits f n → of_bits f m ≡ of_bits f n
+same_nan f m n h k = only_nan (of_bits f m) (h ∙ nan_bits_is f m) ∙ sym (only_nan (of_bits f n) (k ∙ nan_bits_is f n))
 
-pub nan-of : (f : Format) (n : ℕ) → nan_bits f n ≡ true → div f (of_bits f 0) (of_bits f 0) ≡ of_bits f n
-nan-of f n h = zero_by_zero f ∙ sym (only_nan (of_bits f n) (sym (nan_bits_is f n) ∙ h))
-
--- the bits of a number that differs from itself
-pub bits-nan : (x : Float) → ne x x ≡ true → 9221120237041090560 ≡ to_bits binary64 x
+-- the bits of a NaN
+pub bits-nan : (x : Float) → true ≡ is_nan x → 0x7ff8_0000_0000_0000 ≡ to_bits binary64 x
 unfolding to_bits
-bits-nan x h = subst (λ (y : Float). 9221120237041090560 ≡ to_bits binary64 y) (sym (differs_from_itself x (subst T (sym h) tt))) refl
+bits-nan x h = subst (λ (y : Float). 0x7ff8_0000_0000_0000 ≡ to_bits binary64 y) (sym (only_nan x h)) refl

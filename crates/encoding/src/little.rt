@@ -1,69 +1,52 @@
 // Numbers in a slice of bytes, low byte first. Past its end every byte counts as 0.
-ghost use Rattle.std.specs.Prelude.{◌≡◌, ◌+◌, ◌≤◌, ◌<◌, ◌^◌, get_or, length};
-ghost use Rattle.std.specs.Int.{w64};
-ghost use Rattle.std.proofs.Common.{to_z};
+ghost use Rattle.std.specs.Prelude.{◌≡◌, ℕ, ◌+◌, ◌≤◌, ◌<◌, ◌^◌, get_or, length};
 ghost use Rattle.encoding.specs.Little.{byte_of, half, word, double};
 ghost use Rattle.encoding.specs.Stored.{stored};
 
 pub fn byte(s: &[u8], at: usize) -> u8
     ensures { result ≡ get_or s.now at 0 }
 {
-    if at < s.len() { s[at] } else { 0 }
+    s.get(at).copied().unwrap_or(0)
 }
 
-// The byte at at + k, a sum that may be any number.
-fn byte_after(s: &[u8], at: usize, k: usize) -> u8
-    ensures { result ≡ get_or s.now (at + k) 0 }
+// The bytes from `at` on.
+fn rest(s: &[u8], at: usize) -> &[u8]
+    ensures { (j : ℕ) → get_or result.now j 0 ≡ get_or s.now (at + j) 0 }
 {
-    if at < s.len() {
-        if k < s.len() - at { s[at + k] } else { 0 }
-    } else {
-        0
+    s.get(at..).unwrap_or(&[])
+}
+
+// The N bytes from at + k on, a sum that may be any number.
+fn bytes_at<const N: usize>(s: &[u8], at: usize, k: usize) -> [u8; N]
+    requires { k + N < 2 ^ 64 }
+    ensures { (j : ℕ) → j < N → get_or result j 0 ≡ get_or s.now (at + (k + j)) 0 }
+{
+    let rest = rest(s, at);
+    let mut bytes = [0; N];
+    for j in 0..N {
+        bytes[j] = byte(rest, k + j);
     }
-}
-
-pub fn wide(b: u8) -> u64
-    ensures { (result ≡ b) × (result < 256) }
-{
-    b as u64
-}
-
-fn half_at(s: &[u8], at: usize, k: usize) -> u64
-    requires { k < 2 ^ 32 }
-    ensures { (result ≡ half s.now at k) × (result < 65536) }
-{
-    wide(byte_after(s, at, k)) + 256 * wide(byte_after(s, at, k + 1))
+    bytes
 }
 
 pub fn word_at(s: &[u8], at: usize, k: usize) -> u64
     requires { k < 2 ^ 31 }
     ensures { (result ≡ word s.now at k) × (result < 4294967296) }
 {
-    half_at(s, at, k) + 65536 * half_at(s, at, k + 2)
+    u64::from(u32::from_le_bytes(bytes_at(s, at, k)))
 }
 
 pub fn double_at(s: &[u8], at: usize, k: usize) -> u64
     requires { k < 2 ^ 30 }
     ensures { result ≡ double s.now at k }
 {
-    word_at(s, at, k) + 4294967296 * word_at(s, at, k + 4)
-}
-
-// The integer whose two's complement n is.
-pub fn signed(n: u64) -> i64
-    ensures { result ≡ to_z w64 n }
-{
-    if n < 0x8000_0000_0000_0000 {
-        n as i64
-    } else {
-        -1 - (u64::MAX - n) as i64
-    }
+    u64::from_le_bytes(bytes_at(s, at, k))
 }
 
 pub fn u16_at(s: &[u8], at: usize) -> u16
     ensures { result ≡ half s.now at 0 }
 {
-    half_at(s, at, 0) as u16
+    u16::from_le_bytes(bytes_at(s, at, 0))
 }
 
 pub fn u64_at(s: &[u8], at: usize) -> u64
@@ -78,10 +61,8 @@ pub fn put(s: &mut [u8], at: usize, m: usize, n: u64)
     ensures { s.new ≡ stored at m (byte_of n) s.old }
 {
     let mut rest = n;
-    let mut j = 0;
-    while j < m {
+    for j in 0..m {
         s[at + j] = (rest % 256) as u8;
-        rest = rest / 256;
-        j += 1;
+        rest /= 256;
     }
 }

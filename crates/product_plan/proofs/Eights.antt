@@ -5,7 +5,7 @@ use mathlib.Core.Path.{◌≡◌, refl, sym, ap, ◌∙◌}
 use native.Mathlib.Omega.{arith}
 use lib.IntN.{pos}
 use Rattle.number.specs.Kind.{Kind}
-use Rattle.number.proofs.Commutes.{Commutes, SelfConjugate}
+use Rattle.number.specs.Laws.{Commutes, SelfConjugate}
 use Rattle.view.specs.declared.View.{View}
 use Rattle.view.specs.Place.{index, transposed_of}
 use Rattle.slabs.specs.Elem.{elem, Within}

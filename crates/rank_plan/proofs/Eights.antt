@@ -4,7 +4,7 @@ use mathlib.Core.List.{List}
 use mathlib.Core.Path.{◌≡◌, sym, ap, ◌∙◌}
 use native.Mathlib.Omega.{arith}
 use Rattle.number.specs.Kind.{Kind}
-use Rattle.number.proofs.Commutes.{SelfConjugate}
+use Rattle.number.specs.Laws.{SelfConjugate}
 use Rattle.view.specs.declared.View.{View}
 use Rattle.view.specs.Triangle.{end_col}
 use Rattle.slabs.specs.Elem.{elem, Within}

@@ -1,13 +1,13 @@
 // The slabs and scalars of a record in f32.
 use crate::cells::cell_f32;
 use crate::record;
-use encoding::bits::{alike_f32, f32_of};
+use encoding::bits::Patterned;
 use number::Real32;
 
 // The cells that begin at `at`, to the slab.
 pub fn fill(body: &[u8], at: usize, s: &mut [f32]) {
     for (i, x) in s.iter_mut().enumerate() {
-        *x = f32_of(cell_f32(body, at, i));
+        *x = f32::of_pattern(cell_f32(body, at, i));
     }
 }
 
@@ -25,7 +25,7 @@ pub fn slab<'a>(body: &[u8], k: u8, space: &'a mut [f32]) -> &'a mut [f32] {
 // Whether every cell of s is alike to the cells that begin at `at`.
 pub fn same(body: &[u8], at: usize, s: &[f32]) -> bool {
     for (i, x) in s.iter().enumerate() {
-        if !alike_f32(*x, cell_f32(body, at, i)) {
+        if !x.alike(cell_f32(body, at, i)) {
             return false;
         }
     }
@@ -49,7 +49,7 @@ pub fn agree(body: &[u8], answer: u8, a: &[f32], c: &[f32]) -> bool {
 
 // Part k of the scalars: alpha's two parts, then beta's.
 pub fn scalar(body: &[u8], k: u8) -> f32 {
-    f32_of(cell_f32(body, record::scalar_place(k), 0))
+    f32::of_pattern(cell_f32(body, record::scalar_place(k), 0))
 }
 
 pub fn alpha(body: &[u8]) -> Real32 {

@@ -1,13 +1,13 @@
 // The slabs and scalars of a record in f64.
 use crate::cells::cell_f64;
 use crate::record;
-use encoding::bits::{alike_f64, f64_of};
+use encoding::bits::Patterned;
 use number::Real64;
 
 // The cells that begin at `at`, to the slab.
 pub fn fill(body: &[u8], at: usize, s: &mut [f64]) {
     for (i, x) in s.iter_mut().enumerate() {
-        *x = f64_of(cell_f64(body, at, i));
+        *x = f64::of_pattern(cell_f64(body, at, i));
     }
 }
 
@@ -25,7 +25,7 @@ pub fn slab<'a>(body: &[u8], k: u8, space: &'a mut [f64]) -> &'a mut [f64] {
 // Whether every cell of s is alike to the cells that begin at `at`.
 pub fn same(body: &[u8], at: usize, s: &[f64]) -> bool {
     for (i, x) in s.iter().enumerate() {
-        if !alike_f64(*x, cell_f64(body, at, i)) {
+        if !x.alike(cell_f64(body, at, i)) {
             return false;
         }
     }
@@ -49,7 +49,7 @@ pub fn agree(body: &[u8], answer: u8, a: &[f64], c: &[f64]) -> bool {
 
 // Part k of the scalars: alpha's two parts, then beta's.
 pub fn scalar(body: &[u8], k: u8) -> f64 {
-    f64_of(cell_f64(body, record::scalar_place(k), 0))
+    f64::of_pattern(cell_f64(body, record::scalar_place(k), 0))
 }
 
 pub fn alpha(body: &[u8]) -> Real64 {

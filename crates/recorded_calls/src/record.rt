@@ -1,7 +1,7 @@
 // The fields of a record. A field past the record's end reads as 0.
 ghost use Rattle.std.specs.Prelude.{◌≡◌, ◌≤◌, get_or};
 
-use encoding::little::{byte, double_at, signed, wide};
+use encoding::little::{byte, double_at};
 use view::{Diag, Side, Trans, UpLo, View};
 
 // The most cells of a slab.
@@ -49,12 +49,12 @@ fn views_of(routine: u8) -> u8 {
 
 // Where part k of the scalars begins: alpha's two parts, then beta's.
 pub fn scalar_place(k: u8) -> usize {
-    8 + 8 * wide(k) as usize
+    8 + 8 * usize::from(k)
 }
 
 // Flag k of the routine's arguments.
 fn flag(body: &[u8], k: u8) -> u8 {
-    byte(body, 4 + wide(k) as usize)
+    byte(body, 4 + usize::from(k))
 }
 
 pub fn trans(body: &[u8], k: u8) -> Trans {
@@ -92,8 +92,8 @@ fn view_at(body: &[u8], at: usize) -> View {
         start: double_at(body, at, 0) as usize,
         rows: double_at(body, at, 8) as usize,
         cols: double_at(body, at, 16) as usize,
-        rs: signed(double_at(body, at, 24)),
-        cs: signed(double_at(body, at, 32)),
+        rs: double_at(body, at, 24).cast_signed(),
+        cs: double_at(body, at, 32).cast_signed(),
     }
 }
 
@@ -104,14 +104,14 @@ fn length_at(body: &[u8], at: usize) -> usize {
 
 // Where view k begins in a list of checks, which has no scalars.
 fn check_place(k: u8) -> usize {
-    8 + 48 * wide(k) as usize
+    8 + 48 * usize::from(k)
 }
 
 // Where view k begins in a list of calls, and where the cells begin, k being the number of views.
 fn place(k: u8) -> usize
     ensures { result ≤ 12288 }
 {
-    40 + 48 * wide(k) as usize
+    40 + 48 * usize::from(k)
 }
 
 pub fn check_view(body: &[u8], k: u8) -> View {

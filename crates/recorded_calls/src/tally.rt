@@ -3,12 +3,11 @@ ghost use Rattle.std.specs.Prelude.{◌<◌};
 
 use crate::file::List;
 use crate::record::{kind_of, routine};
-use encoding::little::wide;
 use std::io;
 
 // The place of a routine and a kind in the counts.
 fn slot(routine: u8, kind: u8) -> usize {
-    4 * wide(routine) as usize + wide(kind) as usize
+    4 * usize::from(routine) + usize::from(kind)
 }
 
 fn one_more(counts: [u64; 64], at: usize) -> [u64; 64] {

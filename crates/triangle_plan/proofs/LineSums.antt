@@ -24,7 +24,7 @@ use Rattle.blas.specs.Substitution.{unknown, last_first}
 use Rattle.triangle_plan.specs.declared.System.{System}
 use Rattle.triangle_plan.specs.Triangles.{system_of, coefficient}
 use Rattle.triangle_plan.specs.Multiply.{own_diag, own, line_term, own_first, own_last, line_sum}
-use Rattle.number.proofs.Commutes.{Commutes}
+use Rattle.number.specs.Laws.{Commutes}
 use Rattle.triangle_plan.proofs.Systems.{coefficient-is, lines-elem}
 
 -- ---- a sum over the indices from q on, or up to q

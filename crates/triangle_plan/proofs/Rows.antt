@@ -6,7 +6,7 @@ use mathlib.Core.Path.{◌≡◌, refl, ap, sym, subst, ◌∙◌}
 use native.Mathlib.Omega.{arith}
 use Rattle.number.specs.Kind.{Kind}
 use Rattle.number.specs.Laws.{SlabLaws}
-use Rattle.number.proofs.Commutes.{Commutes, SelfConjugate}
+use Rattle.number.specs.Laws.{Commutes, SelfConjugate}
 use Rattle.view.specs.Place.{index, transposed_of}
 use Rattle.view.proofs.TransposeLaws.{transposed-accepted}
 use Rattle.slabs.specs.Distinct.{Distinct}

@@ -1,9 +1,0 @@
--- `f64_of` is `of_bits`, which `from_bits` gives off the NaNs.
-use Rattle.encoding.proofs.Words.{sym, subst, ◌∙◌, Bool, not, T, binary64, nan-of, rules}
-use Rattle.encoding.proofs.bits.f64_of.Statement.{statement}
-use Rattle.encoding.proofs.bits.f64_of.Tie as tie
-
-pub f64_of_spec : {M : Type 1} → statement M
-f64_of_spec = tie.close (tie.spec
-    (λ c κs. search rules) (λ c. subst (λ (b : Bool). T (not b)) (sym c.if-is_nan_f64.false ∙ c.is_nan_f64.ensures) tt)
-    (λ c. nan-of binary64 c.args.n (sym c.is_nan_f64.ensures ∙ c.if-is_nan_f64.true)) (λ c. search rules))

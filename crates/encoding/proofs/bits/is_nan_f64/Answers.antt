@@ -1,0 +1,8 @@
+-- `nan_bits`, in one comparison.
+use Rattle.std.proofs.Common.{sym}
+use Rattle.std.specs.Float.{binary64}
+use lib.Ieee.Bits.{nan_bits_above}
+use Rattle.encoding.proofs.bits.is_nan_f64.Goals as goal
+
+pub returns : goal.returns
+returns c = sym (nan_bits_above binary64 _)
