@@ -95,4 +95,5 @@ starts-out v len p q h f =
 pub start-past : (v : View) (len : ℕ) → (v.rows ≡ 0 → ⊥) → (v.cols ≡ 0 → ⊥) → len ≤ v.start → out_of_bounds v len ≡ true
 start-past v len p q h = is_true (out_of_bounds v len) (starts-out v len p q h)
 
-pub ruleset quick_cases = (no_rows, no-cols, start-past)
+-- the views that need no more than a look at their shape and start
+pub ruleset plain_cases = (no_rows, no-cols, start-past)

@@ -1,5 +1,4 @@
 -- Lemmas that several proofs cite.
-mod Strides
 mod Extent
 mod Multiples
 mod ShapeLaws
@@ -9,5 +8,3 @@ mod Views
 mod Passes
 mod Ops
 mod Ordinary
-mod Parts
-mod Words

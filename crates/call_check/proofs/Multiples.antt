@@ -96,7 +96,7 @@ far-cols rows x cols y h p q = turned rows x cols y ∙ far-rows cols y rows x h
 pub ruleset cases = (no-rows, no-cols, single-row, single-col, still-rows, still-cols, far-rows, far-cols)
 
 -- two elements share a place where a multiple of one stride's size is one of the other's
-pub ruleset sizes = overlaps-is
+pub ruleset overlap_law = overlaps-is
 
 -- ---- one multiple of x after the other
 

@@ -1,34 +1,21 @@
--- Tests in a row, and what the quick tests say of a size and of a stride.
-use mathlib.Core.Path.{◌≡◌, refl, sym, ◌∙◌, ap, subst}
-use mathlib.Core.Bool.{Bool, true, false, not, ◌&&◌, false≢true}
+-- What the quick tests say of a size and of a stride.
+use mathlib.Core.Path.{◌≡◌, refl, sym, ◌∙◌, ap}
+use mathlib.Core.Bool.{true, not, false≢true}
 use Prim.Native.Nat.{ℕ, zero, suc, ◌^◌, ◌≤◌, ◌<◌}
 use native.Mathlib.Nat.{mul-le-mul}
 use native.Mathlib.Omega.{arith}
-use lib.Dec.{T, ltb, leb, eqb}
+use lib.Dec.{ltb, leb, eqb}
 use lib.IntN.{ℤ, pos, negsuc, nat_abs}
-use lib.Signed.{non_neg}
 use mir.Syntax.{w64}
-use mir.Val.{Fits, to_z, of_z}
-use mir.Facts.{to_z-of_z}
+use mir.Val.{of_z}
 use borrow.Author.Tests.{ltb-true, leb-true, lt-ltb, ne_eqb}
 use Rattle.view.proofs.AnyLaws.{and_left, and_right}
+use Rattle.view.specs.declared.View.{View}
 use Rattle.view.specs.Refusals.{limit}
 use Rattle.view.specs.Steps.{up, down}
-use Rattle.call_check.specs.Quick.{few, short, leads, reach, Run, reaches}
+use Rattle.call_check.specs.Quick.{few, short, leads, reach, Run, reaches, plain_vector, stride_of}
 
--- ---- tests in a row: the result x of a test is what its definition a says, and was found true or false
-
-pub told : (a x : Bool) → x ≡ a → x ≡ true → a ≡ true
-told a x e t = sym e ∙ t
-
-pub so : (r a b x : Bool) → x ≡ a → x ≡ true → r ≡ b → r ≡ (a && b)
-so r a b x e t f = f ∙ sym (ap (λ (p : Bool). p && b) (sym e ∙ t))
-
-pub no : (a b x : Bool) → x ≡ a → x ≡ false → false ≡ (a && b)
-no a b x e t = sym (ap (λ (p : Bool). p && b) (sym e ∙ t))
-
--- each way out of a row, and each test of a row that was passed
-pub ruleset ways = (so, no)
+-- ---- each test of a row that was passed
 
 pub ruleset each = (and_left, and_right)
 
@@ -45,27 +32,17 @@ few-is n h = record {
   within = leb-true n limit (and_right (ltb 0 n) (leb n limit) h);
 }
 
--- ---- a stride, and what the machine reads back from its bits
+-- ---- a stride
 
 pub record Short (z : ℤ) : Type 0 where
   pub forward : down z ≡ 0
   pub below : up z < 2 ^ 30
   pub size : nat_abs z ≡ up z
-  pub back : to_z w64 (of_z w64 z) ≡ z
-  pub cast : T (non_neg (to_z w64 (of_z w64 z))) × Fits w64 (nat_abs (to_z w64 (of_z w64 z)))
 
 pub short-is : (z : ℤ) → short z ≡ true → Short z
 unfolding short
 short-is (pos n) h =
-    let l = ltb-true n (2 ^ 30) h in
-    let e = to_z-of_z {w = w64} {z = pos n} (record { sfits = omega arith }) in
-    record {
-      forward = refl;
-      below = l;
-      size = refl;
-      back = e;
-      cast = subst (λ (z : ℤ). T (non_neg z) × Fits w64 (nat_abs z)) (sym e) (tt, record { fits = omega arith });
-    }
+    record { forward = refl; below = ltb-true n (2 ^ 30) h; size = refl }
 short-is (negsuc n) h = absurd (false≢true h)
 
 -- a stride that is not 0 leads on
@@ -88,6 +65,10 @@ pub reaches-short : (start n : ℕ) (z : ℤ) (len : ℕ) → reaches start n z 
 unfolding reaches
 reaches-short start n z len h = search each
 
+pub vector-short : (v : View) (n len : ℕ) → plain_vector v n len ≡ true → short (stride_of v n) ≡ true
+unfolding plain_vector
+vector-short v n len h = reaches-short v.start n (stride_of v n) len h
+
 -- ---- the same facts, one by one
 
 pub few-some : (n : ℕ) → few n ≡ true → 1 ≤ n
@@ -103,4 +84,4 @@ short-below z h = (short-is z h).below
 
 pub ruleset strides = (few-some, short-up, short-below, reach-le)
 
-pub ruleset leading = (reaches-short, leads-is)
+pub ruleset leading = (vector-short, leads-is)

@@ -1,38 +1,26 @@
 -- Vectors, as the shape rules find them.
 use mathlib.Core.Path.{◌≡◌, refl, sym, ◌∙◌, ap}
 use mathlib.Core.Bool.{Bool, true, false, ◌&&◌, ◌||◌}
-use Prim.Native.Nat.{ℕ, ◌≤◌, ◌<◌}
+use Prim.Native.Nat.{ℕ, ◌≤◌}
 use native.Mathlib.Nat.{mul_comm}
 use lib.Dec.{leb, eqb}
 use lib.IntN.{nat_abs}
-use borrow.Author.Tests.{le-leb, lt-leb}
+use borrow.Author.Tests.{le-leb}
 use Rattle.view.specs.declared.View.{View}
 use Rattle.view.specs.Place.{transposed_of}
-use Rattle.view.proofs.AnyLaws.{or_left, or_right, or-none, and-no-left}
+use Rattle.view.proofs.AnyLaws.{or_right}
 use Rattle.view.specs.Refusals.{is_vector, vec_length, overlaps}
 use Rattle.view.specs.Checks.{vector_of}
 use Rattle.view.proofs.OverlapLaws.{overlaps-is}
 use Rattle.call_check.proofs.Multiples.{turned}
 
-pub thin-rows : (v : View) → v.rows ≤ 1 → is_vector v ≡ true
-unfolding is_vector
-thin-rows v h = or_left (leb v.cols 1) (le-leb v.rows 1 h)
-
 pub thin-cols : (v : View) → v.cols ≤ 1 → is_vector v ≡ true
 unfolding is_vector
 thin-cols v h = or_right (leb v.rows 1) (le-leb v.cols 1 h)
 
-pub no-vector : (v : View) → 1 < v.rows → 1 < v.cols → is_vector v ≡ false
-unfolding is_vector
-no-vector v p q = or-none (leb v.rows 1) (leb v.cols 1) (lt-leb v.rows 1 p) (lt-leb v.cols 1 q)
-
 pub length-is : (v : View) (m n : ℕ) → is_vector v ≡ true → vec_length v ≡ m → eqb m n ≡ vector_of v n
 unfolding vector_of
 length-is v m n h e = ap (λ (k : ℕ). eqb k n) (sym e) ∙ ap (λ (b : Bool). b && eqb (vec_length v) n) (sym h)
-
-pub no_length : (v : View) (n : ℕ) → is_vector v ≡ false → false ≡ vector_of v n
-unfolding vector_of
-no_length v n h = sym (and-no-left (is_vector v) (eqb (vec_length v) n) h)
 
 -- ---- the transposed view
 

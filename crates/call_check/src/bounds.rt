@@ -46,7 +46,9 @@ fn within(room: usize, a: usize, x: usize, b: usize, y: usize) -> bool
 // Whether the last place is at the slab's end or past it, or the first below 0.
 #[tactic(auto, using(crate::proofs::Extent::outside_is))]
 fn outside(v: View, len: usize) -> bool
-    requires { (0 < v.rows) × ((0 < v.cols) × (v.start < len)) }
+    requires rows { 0 < v.rows }
+    requires cols { 0 < v.cols }
+    requires start { v.start < len }
     ensures { result ≡ out_of_bounds v len }
 {
     let a = v.rows - 1;
@@ -55,7 +57,7 @@ fn outside(v: View, len: usize) -> bool
         || !within(v.start, a, down_part(v.rs), b, down_part(v.cs))
 }
 
-#[tactic(auto, using(crate::proofs::Extent::quick_cases))]
+#[tactic(auto, using(crate::proofs::Extent::plain_cases))]
 pub fn out_of_bounds(v: View, len: usize) -> bool
     ensures { result ≡ out_of_bounds v len }
 {

@@ -1,6 +1,7 @@
-// The check of each routine: the answer that the refusals 1 to 4 give, or Done. Arguments in the Rust's order, each view with
-// the length of its slab in elements; flags that no shape rule looks at are left out. Each takes what the quick test of the call
-// answered: a call that passed it is done.
+// The check of each routine: the answer that the refusals 1 to 4 give, or Done. Arguments in the Rust's order, each view
+// with the length of its slab in elements, as the definitions (view, specs/Checks) and the theorems on them have it; flags
+// that no shape rule looks at are left out. Each takes what the quick test of the call answered: a call that passed it is
+// done.
 
 #![tactic(auto)]
 

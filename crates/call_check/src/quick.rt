@@ -1,5 +1,6 @@
-// Quick tests that pass calls as most are: views of at least one element, with small starts and with strides that are small and not negative.
-// What each answers is a definition (specs/Quick). A call that one passes is not refused; one that they do not pass is judged in full.
+// Quick tests that pass calls as most are: views of at least one element, with small starts and with strides that are
+// small and not negative. What each answers is a definition (specs/Quick). A call that one passes is not refused; one that
+// they do not pass is judged in full.
 ghost use Rattle.std.specs.Prelude.{◌≡◌, true, ◌≤◌, ◌^◌};
 ghost use Rattle.call_check.specs.Quick as specs;
 
@@ -63,7 +64,8 @@ fn plain(v: View, len: usize) -> bool
 // Whether each row is past the one before it, or each column, neither standing still.
 #[tactic(auto, using(crate::proofs::Runs::strides), unfolding(crate::specs::Quick::apart))]
 fn apart(v: View) -> bool
-    requires { specs.Run v.rows v.rs × specs.Run v.cols v.cs }
+    requires rows { specs.Run v.rows v.rs }
+    requires cols { specs.Run v.cols v.cs }
     ensures { result ≡ specs.apart v.rows v.cols v.rs v.cs }
 {
     reach(v.cols, v.cs) < v.rs as usize && v.cs != 0
@@ -93,32 +95,23 @@ fn stride_of(v: View, n: usize) -> i64
     }
 }
 
-// Whether n elements from a start, by a stride, are in bounds.
-#[tactic(auto, unfolding(crate::specs::Quick::reaches))]
-fn reaches(start: usize, n: usize, z: i64, len: usize) -> bool
-    requires { specs.few n ≡ true }
-    ensures { result ≡ specs.reaches start n z len }
-{
-    near(start) && short(z) && start + reach(n, z) < len
-}
-
 // Whether a vector of length n is in bounds.
-#[tactic(auto, unfolding(crate::specs::Quick::plain_vector))]
+#[tactic(auto, unfolding(crate::specs::Quick::plain_vector, crate::specs::Quick::reaches))]
 fn vector(v: View, n: usize, len: usize) -> bool
     requires { specs.few n ≡ true }
     ensures { result ≡ specs.plain_vector v n len }
 {
-    reaches(v.start, n, stride_of(v, n), len)
+    let z = stride_of(v, n);
+    near(v.start) && short(z) && v.start + reach(n, z) < len
 }
 
 // The same of a vector that is written, each element on a place of its own.
-#[tactic(auto, using(crate::proofs::Runs::leading), unfolding(crate::specs::Quick::plain_vector, crate::specs::Quick::written_vector))]
+#[tactic(auto, using(crate::proofs::Runs::leading), unfolding(crate::specs::Quick::written_vector))]
 fn vector_target(v: View, n: usize, len: usize) -> bool
     requires { specs.few n ≡ true }
     ensures { result ≡ specs.written_vector v n len }
 {
-    let z = stride_of(v, n);
-    reaches(v.start, n, z, len) && z != 0
+    vector(v, n, len) && stride_of(v, n) != 0
 }
 
 // Whether a matrix is square.

@@ -1,4 +1,5 @@
-// Refusal 4: whether two elements of a view share a place.
+// Refusal 4: whether two elements of a view share a place. A count and the size of its stride are two arguments, as
+// `meets` of view takes them.
 ghost use Rattle.std.specs.Prelude.{◌≡◌, ◌<◌, ◌≤◌, ◌^◌};
 ghost use Rattle.view.specs.Refusals.{overlaps};
 ghost use Rattle.view.specs.Steps.{meets};
@@ -8,7 +9,8 @@ use view::View;
 
 // Goes through the multiples k * x, each as quot * y + rem: it meets a multiple d * y, d < cols, where rem is 0.
 fn multiples_meet(rows: usize, x: usize, cols: usize, y: usize) -> bool
-    requires { (0 < y) × (y ≤ 2 ^ 63) }
+    requires moves { 0 < y }
+    requires bound { y ≤ 2 ^ 63 }
     ensures { result ≡ meets rows x cols y }
 {
     let q = x / y;
@@ -46,7 +48,8 @@ fn line_meets(n: usize, stride: usize) -> bool
 // Whether k * x = d * y for some k < rows and d < cols that are not both 0.
 #[tactic(auto, using(crate::proofs::Multiples::cases))]
 fn steps_meet(rows: usize, x: usize, cols: usize, y: usize) -> bool
-    requires { (x ≤ 2 ^ 63) × (y ≤ 2 ^ 63) }
+    requires rows_bound { x ≤ 2 ^ 63 }
+    requires cols_bound { y ≤ 2 ^ 63 }
     ensures { result ≡ meets rows x cols y }
 {
     if rows == 0 || cols == 0 {
@@ -64,7 +67,7 @@ fn steps_meet(rows: usize, x: usize, cols: usize, y: usize) -> bool
     }
 }
 
-#[tactic(auto, using(crate::proofs::Multiples::sizes))]
+#[tactic(auto, using(crate::proofs::Multiples::overlap_law))]
 pub fn overlap(v: View) -> bool
     ensures { result ≡ overlaps v }
 {

@@ -1,4 +1,4 @@
--- What real kinds have beside the laws of every kind: a product is the same in either order of its operands, and a number is its own conjugate.
+-- A product is the same in either order of its operands, and a real number is its own conjugate.
 use Prim.Native.Nat.{ℕ, ◌+◌, ◌*◌, ◌-◌, ◌<◌, ◌≤◌}
 use mathlib.Core.Bool.{Bool, true, false, cond, ◌&&◌}
 use mathlib.Core.Path.{◌≡◌, refl, ap, sym, ◌∙◌}
@@ -8,13 +8,8 @@ use borrow.Author.Tests.{ltb-true, ltb-false}
 use lib.Dec.{ltb, eqb}
 use lib.Ieee.{Float, Format, binary64, nan, inf, fin, unlike, up, down, round, sum, add, mul, sub}
 use Rattle.number.specs.declared.Complex.{Complex}
-use Rattle.number.specs.Kind.{Kind, real, complex}
-
-pub record Commutes (K : Kind) : Type 0 where
-  pub commutes : (x y : K.Elem) → K.mul x y ≡ K.mul y x
-
-pub record SelfConjugate (K : Kind) : Type 0 where
-  pub own : (x : K.Elem) → K.conj x ≡ x
+use Rattle.number.specs.Kind.{real, complex}
+use Rattle.number.specs.Laws.{Commutes, SelfConjugate}
 
 -- ---- floats
 

@@ -14,7 +14,3 @@ pub mod ComplexExact
 pub mod Instances
 pub mod ScalingLaws
 pub mod WorkedNumbers
-pub mod WordsReal64
-pub mod WordsReal32
-pub mod WordsComplex
-mod Words

@@ -10,8 +10,8 @@ use lib.Ieee.{Float, Format, binary64, nan, fits}
 use lib.Ieee.Fits.{nan-fits}
 use lib.ListN.{length, get_or, set, length-set, get_or-eq_default}
 use lib.Seq.{get_or-set_same, get_or-set_other}
-use Rattle.number.specs.Kind.{Kind, real, real64, complex, same_float, Same, Holds}
-use Rattle.number.specs.Laws.{SlabLaws, Held, SameSlab}
+use Rattle.number.specs.Kind.{real, real64, complex, same_float, Same, Holds}
+use Rattle.number.specs.Laws.{SlabLaws, Swaps, Held, SameSlab}
 use Rattle.number.specs.declared.Complex.{Complex}
 use Rattle.number.proofs.Negation.{same_float-refl}
 use Rattle.number.proofs.Parts.{equal, same, same-re, same-im, holds, holds-re, holds-im}
@@ -126,9 +126,6 @@ complex-slab =
     put_same k h r = L.put_same (2 * k + 1) (L.put_same (2 * k) (real_same h) (same-re r)) (same-im r)
 
 -- ---- replacing two elements, in either order
-
-pub record Swaps (K : Kind) : Type 0 where
-  pub swap : (s : List K.Cell) (k j : ℕ) (x y : K.Elem) → (j ≡ k → ⊥) → K.put (K.put s k x) j y ≡ K.put (K.put s j y) k x
 
 pub set-swap : {A : Type 0} (s : List A) (k j : ℕ) (x y : A) → (j ≡ k → ⊥) → set (set s k x) j y ≡ set (set s j y) k x
 set-swap [] k j x y h = refl

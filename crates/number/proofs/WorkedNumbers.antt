@@ -5,11 +5,11 @@ use mathlib.Core.Path.{◌≡◌, refl}
 use lib.Ieee.{Float, binary32, binary64, nan, inf, fin, add, sub, mul, div, neg, eq, of_int, of_bits, to_bits}
 use lib.IntN.{pos}
 use Rattle.number.specs.Kind.{real64, real32, complex}
-use Rattle.number.specs.Scaling.{beta64, beta32, beta_complex, beta_real}
-use Rattle.number.specs.declared.Beta64.TheVariants as Beta64
-use Rattle.number.specs.declared.Beta32.TheVariants as Beta32
+use Rattle.number.specs.Kind.{real_numbers, complex_numbers}
+use Rattle.number.specs.Scaling.{beta_of, beta_real_of, real_multipliers, complex_multipliers}
+use Rattle.number.specs.declared.Beta.{Beta}
+use Rattle.number.specs.declared.Multiplier.{Multiplier}
 use Rattle.number.specs.declared.Complex.{Complex}
-use Rattle.number.specs.declared.BetaComplex.TheVariants as BetaComplex
 
 -- ---- how the rows write numbers: a whole number, −0, f64 and f32 by their bits, and the complex number (x, y)
 
@@ -27,6 +27,20 @@ f32 = of_bits binary32
 
 abbrev pair : Float → Float → Complex
 pair x y = record { re = x; im = y }
+
+-- ---- beta as each kind judges it
+
+abbrev beta64 : Float → Beta Float
+beta64 = beta_of (real_numbers binary64) (real_multipliers binary64)
+
+abbrev beta32 : Float → Beta Float
+beta32 = beta_of (real_numbers binary32) (real_multipliers binary32)
+
+abbrev beta_complex : Complex → Beta Multiplier
+beta_complex = beta_of complex_numbers complex_multipliers
+
+abbrev beta_real : Float → Beta Multiplier
+beta_real = beta_real_of complex_numbers complex_multipliers
 
 -- ---- each operation rounds once
 
@@ -126,28 +140,28 @@ unfolding eq of_int
 imaginary-not-zero = refl
 
 -- beta −0 clears
-pub beta-minus-zero64 : beta64 minus_zero ≡ Beta64.Clear
+pub beta-minus-zero64 : beta64 minus_zero ≡ Beta.Clear
 unfolding eq
 beta-minus-zero64 = refl
 
-pub beta-minus-zero32 : beta32 minus_zero ≡ Beta32.Clear
+pub beta-minus-zero32 : beta32 minus_zero ≡ Beta.Clear
 unfolding eq
 beta-minus-zero32 = refl
 
-pub beta-minus-zero-complex : beta_complex (pair minus_zero minus_zero) ≡ BetaComplex.Clear
+pub beta-minus-zero-complex : beta_complex (pair minus_zero minus_zero) ≡ Beta.Clear
 unfolding eq
 beta-minus-zero-complex = refl
 
-pub beta-minus-zero-real : beta_real minus_zero ≡ BetaComplex.Clear
+pub beta-minus-zero-real : beta_real minus_zero ≡ Beta.Clear
 unfolding eq
 beta-minus-zero-real = refl
 
 -- beta (1, −0) keeps
-pub beta-one-minus-zero : beta_complex (pair (whole 1) minus_zero) ≡ BetaComplex.Keep
+pub beta-one-minus-zero : beta_complex (pair (whole 1) minus_zero) ≡ Beta.Keep
 unfolding eq of_int
 beta-one-minus-zero = refl
 
 -- any other beta is a factor, and carries its float
-pub beta-three : beta64 (whole 3) ≡ Beta64.Factor (whole 3)
+pub beta-three : beta64 (whole 3) ≡ Beta.Factor (whole 3)
 unfolding eq of_int
 beta-three = refl

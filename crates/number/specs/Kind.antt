@@ -4,6 +4,40 @@ use Rattle.std.specs.Float.{Format, binary32, binary64, nan, inf, fin}
 use Rattle.std.specs.Float.Ieee.{fits, is_nan, add, sub, mul, div, neg, eq}
 use Rattle.number.specs.declared.Complex.{Complex}
 
+-- The numbers of a kind over three types: a number of the slab, an element, and a real factor (document 01: "real alpha", "real beta").
+pub record Numbers (Cell Elem Factor : Type 0) : Type 0 where
+  -- the element operations
+  pub zero : Elem
+  pub one : Elem
+  pub add : Elem → Elem → Elem
+  pub sub : Elem → Elem → Elem
+  pub mul : Elem → Elem → Elem
+  pub div : Elem → Elem → Elem
+  pub conj : Elem → Elem
+  -- zero and one go by value, so −0 is zero
+  pub is_zero : Elem → Bool
+  pub is_one : Elem → Bool
+  -- a real factor as an element, the product of a factor and an element, and the factor's own tests
+  pub from_real : Factor → Elem
+  pub scale_real : Factor → Elem → Elem
+  pub is_zero_factor : Factor → Bool
+  pub is_one_factor : Factor → Bool
+  -- the slab: cells to an element, bytes to a cell, how many whole elements it has, element k, and the slab with element k replaced
+  pub width : ℕ
+  pub bytes : ℕ
+  pub count : List Cell → ℕ
+  pub at : List Cell → ℕ → Elem
+  pub put : List Cell → ℕ → Elem → List Cell
+  -- the format holds the number
+  pub holds_cell : Cell → Bool
+  pub holds : Elem → Bool
+  -- equal as numbers (document 01): +0 equals −0, and every NaN every NaN
+  pub same_cell : Cell → Cell → Bool
+  pub same : Elem → Elem → Bool
+  pub same_factor : Factor → Factor → Bool
+  -- neither infinite nor NaN
+  pub finite : Elem → Bool
+
 -- A kind of number: its elements with their operations, and how they lie in a slab.
 pub record Kind : Type 1 where
   -- a number of the slab, an element, and a real factor (document 01: "real alpha", "real beta")
@@ -41,6 +75,39 @@ pub record Kind : Type 1 where
   pub same_factor : Factor → Factor → Bool
   -- neither infinite nor NaN
   pub finite : Elem → Bool
+
+-- the kind of such numbers
+abbrev pub kind : {C E F : Type 0} → Numbers C E F → Kind
+kind {C = C} {E = E} {F = F} n =
+    record {
+      Cell = C;
+      Elem = E;
+      Factor = F;
+      zero = n.zero;
+      one = n.one;
+      add = n.add;
+      sub = n.sub;
+      mul = n.mul;
+      div = n.div;
+      conj = n.conj;
+      is_zero = n.is_zero;
+      is_one = n.is_one;
+      from_real = n.from_real;
+      scale_real = n.scale_real;
+      is_zero_factor = n.is_zero_factor;
+      is_one_factor = n.is_one_factor;
+      width = n.width;
+      bytes = n.bytes;
+      count = n.count;
+      at = n.at;
+      put = n.put;
+      holds_cell = n.holds_cell;
+      holds = n.holds;
+      same_cell = n.same_cell;
+      same = n.same;
+      same_factor = n.same_factor;
+      finite = n.finite;
+    }
 
 -- ---- the tests as statements
 
@@ -80,12 +147,9 @@ bytes_of binary64 = 8
 
 -- ---- the real kinds: IEEE 754's operations, rounded once; the conjugate of a real number is itself
 
-abbrev pub real : Format → Kind
-real f =
+abbrev pub real_numbers : Format → Numbers Float Float Float
+real_numbers f =
     record {
-      Cell = Float;
-      Elem = Float;
-      Factor = Float;
       zero = zero_float;
       one = one_float;
       add = add f;
@@ -111,6 +175,9 @@ real f =
       same_factor = same_float;
       finite = finite_float;
     }
+
+abbrev pub real : Format → Kind
+real f = kind (real_numbers f)
 
 abbrev pub real64 : Kind
 real64 = real binary64
@@ -154,12 +221,9 @@ abbrev pub conj_complex : Complex → Complex
 conj_complex a = record { re = a.re; im = neg a.im }
 
 -- Element k lies on cells 2k and 2k + 1.
-abbrev pub complex : Kind
-complex =
+abbrev pub complex_numbers : Numbers Float Complex Float
+complex_numbers =
     record {
-      Cell = Float;
-      Elem = Complex;
-      Factor = Float;
       zero = record { re = zero_float; im = zero_float };
       one = record { re = one_float; im = zero_float };
       add = add_complex;
@@ -185,3 +249,6 @@ complex =
       same_factor = same_float;
       finite = λ a. finite_float a.re && finite_float a.im;
     }
+
+abbrev pub complex : Kind
+complex = kind complex_numbers

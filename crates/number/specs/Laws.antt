@@ -1,7 +1,7 @@
 -- The laws of a number kind, as records over `Kind`: what the proofs about every routine rest on.
 -- `Same` is equality as numbers; a number that the format holds is `Holds`, and every number of a slab is one.
 use Rattle.std.specs.Prelude.{ℕ, ◌+◌, ◌*◌, ◌≤◌, ◌<◌, Bool, List, ◌≡◌, T, length, get_or}
-use Rattle.number.specs.Kind.{Kind, Same, SameFactor, Holds, Finite}
+use Rattle.number.specs.Kind.{Kind, Numbers, kind, Same, SameFactor, Holds, Finite}
 
 -- ---- slabs
 
@@ -79,6 +79,27 @@ pub record Laws (K : Kind) : Type 0 where
   pub conj-zero : Same K (K.conj K.zero) K.zero
   pub conj-one : Same K (K.conj K.one) K.one
   pub conj-same : {x y : K.Elem} → Same K (K.conj x) (K.conj y) → Same K x y
+
+-- ---- beside them
+
+-- a product is the same in either order of its operands
+pub record Commutes (K : Kind) : Type 0 where
+  pub commutes : (x y : K.Elem) → K.mul x y ≡ K.mul y x
+
+-- a number is its own conjugate
+pub record SelfConjugate (K : Kind) : Type 0 where
+  pub own : (x : K.Elem) → K.conj x ≡ x
+
+-- elements at two places are replaced in either order
+pub record Swaps (K : Kind) : Type 0 where
+  pub swap : (s : List K.Cell) (k j : ℕ) (x y : K.Elem) → (j ≡ k → ⊥) → K.put (K.put s k x) j y ≡ K.put (K.put s j y) k x
+
+-- what a type of numbers brings to every routine: the laws of its kind, and that slabs of one length have as many elements
+pub record NumberLaws {C E F : Type 0} (n : Numbers C E F) : Type 0 where
+  pub laws : Laws (kind n)
+  pub commutes : Commutes (kind n)
+  pub swaps : Swaps (kind n)
+  pub counted : {s t : List C} → length s ≡ length t → n.count s ≡ n.count t
 
 -- ---- exactness on whole numbers: K's operations beside those of the exact kind Z
 

@@ -4,6 +4,3 @@ pub mod Kind
 pub mod Scaling
 pub mod Integers
 pub mod Laws
-pub mod WordsReal64
-pub mod WordsReal32
-pub mod WordsComplex

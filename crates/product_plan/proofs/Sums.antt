@@ -7,7 +7,7 @@ use native.Mathlib.Omega.{arith}
 use lib.Dec.{ltb}
 use borrow.Author.Tests.{lt-ltb, le-ltb}
 use Rattle.number.specs.Kind.{Kind}
-use Rattle.number.proofs.Commutes.{SelfConjugate}
+use Rattle.number.specs.Laws.{SelfConjugate}
 use Rattle.slabs.specs.Elem.{elem}
 use Rattle.blas.specs.Matrix.{sum}
 use Rattle.blas.proofs.SumLaws.{sum-next}

@@ -7,7 +7,7 @@ use native.Mathlib.Omega.{arith}
 use lib.Dec.{leb}
 use borrow.Author.Tests.{leb-true, leb-false}
 use Rattle.number.specs.Kind.{Kind}
-use Rattle.number.proofs.Commutes.{Commutes, SelfConjugate}
+use Rattle.number.specs.Laws.{Commutes, SelfConjugate}
 use Rattle.view.specs.declared.View.{View}
 use Rattle.view.specs.declared.Side.{Side}
 use Rattle.view.specs.declared.Side.TheVariants.{Left, Right}

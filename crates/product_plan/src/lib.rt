@@ -6,7 +6,7 @@
 mod plan;
 mod routines;
 
-pub use plan::{Factors, Folded, Plan, Turn, turn_at};
+pub use plan::{Factors, Folded, Plan, Turn};
 pub use routines::{
     element_plan, gemm_plan, gemv_plan, hemv_plan, herk_plan, is_left, left_plan, right_plan,
     syrk_plan, upper_view,

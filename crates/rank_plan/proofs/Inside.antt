@@ -1,11 +1,11 @@
 -- What the code reads and writes is inside the slabs.
-use Prim.Native.Nat.{ℕ, ◌<◌}
+use Prim.Native.Nat.{ℕ, ◌+◌, ◌<◌}
 use mathlib.Core.Path.{◌≡◌, sym, subst}
 use native.Mathlib.Omega.{arith}
 use Rattle.view.specs.declared.View.{View}
 use Rattle.slabs.specs.Elem.{Within}
 use Rattle.rank_plan.specs.declared.plan.Plan.{Plan}
-use Rattle.rank_plan.specs.Ready.{Sized, One, Two, Paired, Entry}
+use Rattle.rank_plan.specs.Ready.{Sized, One, Two, Paired, Entries}
 
 -- ---- an element of a matrix
 
@@ -18,18 +18,18 @@ column-shows v len m s i h = sized-shows v len m 1 s i 0 h (omega arith)
 
 -- ---- the factors of the two products at p
 
-module _ (plan : Plan) (la lb i j : ℕ) (e : Entry plan la lb i j) (p : ℕ) (h : p < plan.terms) where
-  pub left-a-shows : Within plan.left_a la i p
-  left-a-shows = sized-shows _ _ _ _ e.factors.left-a i p e.row h
+module _ (w : ℕ) (plan : Plan) (la lb i j : ℕ) (e : Entries w plan la lb i j) (p : ℕ) (h : p < plan.terms) where
+  pub left_a_shows : Within plan.left_a la i p
+  left_a_shows = sized-shows _ _ _ _ e.factors.left-a i p e.row h
 
-  pub right-b-shows : Within plan.right_b lb p j
-  right-b-shows = sized-shows _ _ _ _ e.factors.right-b p j h e.col
+  pub left_b_shows : Within plan.left_b lb i p
+  left_b_shows = sized-shows _ _ _ _ e.factors.left-b i p e.row h
 
-  pub left-b-shows : Within plan.left_b lb i p
-  left-b-shows = sized-shows _ _ _ _ e.factors.left-b i p e.row h
+  pub right_b_shows : (t : ℕ) → t < w → Within plan.right_b lb p (j + t)
+  right_b_shows t l = sized-shows _ _ _ _ e.factors.right-b p (j + t) h (omega (arith, e.cols))
 
-  pub right-a-shows : Within plan.right_a la p j
-  right-a-shows = sized-shows _ _ _ _ e.factors.right-a p j h e.col
+  pub right_a_shows : (t : ℕ) → t < w → Within plan.right_a la p (j + t)
+  right_a_shows t l = sized-shows _ _ _ _ e.factors.right-a p (j + t) h (omega (arith, e.cols))
 
 -- ---- an element of the target, whose slab keeps its length
 
@@ -52,8 +52,5 @@ module _ (plan : Plan) (la lb lc lc' : ℕ) (kept : lc' ≡ lc) (o : Paired plan
   pub paired-kept : Paired plan la lb lc'
   paired-kept = subst (λ (k : ℕ). Paired plan la lb k) (sym kept) o
 
-  pub paired-shows : (i j : ℕ) → i < plan.target.rows → j < plan.target.rows → Entry plan la lb i j × Within plan.target lc' i j
-  paired-shows i j h g = (
-    record { factors = o.factors; row = h; col = subst (λ (k : ℕ). j < k) (sym o.target.cols) g },
-    sized-shows _ _ _ _ paired-kept.target i j h g,
-  )
+  pub paired-shows : (i j : ℕ) → i < plan.target.rows → j < plan.target.rows → Within plan.target lc' i j
+  paired-shows i j h g = sized-shows _ _ _ _ paired-kept.target i j h g

@@ -28,7 +28,7 @@ use Rattle.blas.proofs.OutcomeLaws.{check_done, gives-work, gives-refusal}
 use Rattle.rank_plan.specs.declared.plan.Plan.{Plan}
 use Rattle.rank_plan.specs.declared.plan.Readings.{Readings}
 use Rattle.rank_plan.specs.Plan.{paired_plan, syr2k_plan, her2k_plan, syr_readings, her_readings}
-use Rattle.rank_plan.specs.Change.{pairs_at, weigheds_at, syr2k_change, her2k_change}
+use Rattle.rank_plan.specs.Change.{Weights, sum_weighed, factors_weighed, pairs_at, syr2k_change, her2k_change}
 use Rattle.rank_plan.specs.Ready.{One, Two, Paired}
 use Rattle.rank_plan.proofs.Ready.{her-ready, her2-ready, paired-ready, syr-turned, her-turned}
 
@@ -87,26 +87,17 @@ module _ (K : Kind) (uplo : UpLo) (alpha : K.Elem) (x y a : Lent K)
 -- ---- the sums of syr2k and of her2k: what the plan reads is op(A) and op(B)
 
 module _ (K : Kind) (uplo : UpLo) (t : Trans) (r : Readings) (a b : Lent K) (c : View) (i j n : ℕ) where
-  abbrev plan : Plan
-  plan = paired_plan uplo t r a.view b.view c
+  abbrev paired : Plan
+  paired = paired_plan uplo t r a.view b.view c
 
-  read_pairs : pairs_at K plan a.slab b.slab i j n
+  read-pairs : (w : Weights K) → pairs_at K paired a.slab b.slab w i j n
       ≡ pair_sum K n
-      (λ p. K.mul (op K r.left (elem K a.slab a.view) i p) (op K r.right (elem K b.slab b.view) p j))
-      (λ p. K.mul (op K r.left (elem K b.slab b.view) i p) (op K r.right (elem K a.slab a.view) p j))
-  read_pairs s =
+      (λ p. K.mul (w.left_a (op K r.left (elem K a.slab a.view) i p)) (op K r.right (elem K b.slab b.view) p j))
+      (λ p. K.mul (w.left_b (op K r.left (elem K b.slab b.view) i p)) (op K r.right (elem K a.slab a.view) p j))
+  read-pairs w s =
       pair_sum K n
-      (λ p. K.mul (op-elem K a.slab r.left a.view i p s) (op-elem K b.slab r.right b.view p j s))
-      (λ p. K.mul (op-elem K b.slab r.left b.view i p s) (op-elem K a.slab r.right a.view p j s))
-
-  read-weighed : (alpha : K.Elem) → weigheds_at K plan a.slab b.slab alpha i j n
-      ≡ pair_sum K n
-      (λ p. K.mul (K.mul alpha (op K r.left (elem K a.slab a.view) i p)) (op K r.right (elem K b.slab b.view) p j))
-      (λ p. K.mul (K.mul (K.conj alpha) (op K r.left (elem K b.slab b.view) i p)) (op K r.right (elem K a.slab a.view) p j))
-  read-weighed alpha s =
-      pair_sum K n
-      (λ p. K.mul (K.mul alpha (op-elem K a.slab r.left a.view i p s)) (op-elem K b.slab r.right b.view p j s))
-      (λ p. K.mul (K.mul (K.conj alpha) (op-elem K b.slab r.left b.view i p s)) (op-elem K a.slab r.right a.view p j s))
+      (λ p. K.mul (w.left_a (op-elem K a.slab r.left a.view i p s)) (op-elem K b.slab r.right b.view p j s))
+      (λ p. K.mul (w.left_b (op-elem K b.slab r.left b.view i p s)) (op-elem K a.slab r.right a.view p j s))
 
 -- ---- syr2k
 
@@ -133,7 +124,7 @@ module _ (K : Kind) (uplo : UpLo) (t : Trans) (alpha : K.Elem) (a b : Lent K) (b
       (e
       ∙ (λ i. syr2k-work (scale i) (planned i))
       ∙ (λ s. update K c.view (in_triangle uplo)
-      (λ i j old. K.add (scaled K beta old) (K.mul alpha (read_pairs K uplo t (syr_readings t) a b c.view i j (op_cols t a.view) s)))
+      (λ i j old. K.add (scaled K beta old) (K.mul alpha (read-pairs K uplo t (syr_readings t) a b c.view i j (op_cols t a.view) (sum_weighed K alpha) s)))
       c.slab))
 
 -- ---- her2k
@@ -161,5 +152,5 @@ module _ (K : Kind) (uplo : UpLo) (t : Trans) (alpha : K.Elem) (a b : Lent K) (b
       (e
       ∙ (λ i. her2k-work (scale i) (planned i))
       ∙ (λ s. update K c.view (in_triangle uplo)
-      (λ i j old. K.add (scaled_real K beta old) (read-weighed K uplo t (her_readings t) a b c.view i j (op_cols t a.view) alpha s))
+      (λ i j old. K.add (scaled_real K beta old) (read-pairs K uplo t (her_readings t) a b c.view i j (op_cols t a.view) (factors_weighed K alpha) s))
       c.slab))

@@ -1,4 +1,4 @@
--- What the code reads and writes is inside the slabs, its loops over the named triangle, eight sums side by side,
+-- What the code reads and writes is inside the slabs, its loops over the named triangle, sums side by side,
 -- why a call that its check passes is ready, and what each kernel has to show.
 pub mod Inside
 pub mod Rows
@@ -6,4 +6,3 @@ pub mod Laws
 pub mod Eights
 pub mod Ready
 pub mod Kernels
-mod Words

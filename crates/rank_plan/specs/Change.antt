@@ -16,6 +16,20 @@ add_two K w w' x y j old = K.add (K.add old (K.mul w (K.conj (y j 0)))) (K.mul w
 
 -- ---- syr2k and her2k
 
+-- what weighs the left factors, those of A and those of B, and the sum of the products
+pub record Weights (K : Kind) : Type 0 where
+  pub left_a : K.Elem → K.Elem
+  pub left_b : K.Elem → K.Elem
+  pub sum : K.Elem → K.Elem
+
+-- syr2k: alpha weighs the sum
+abbrev pub sum_weighed : (K : Kind) → K.Elem → Weights K
+sum_weighed K alpha = record { left_a = λ x. x; left_b = λ x. x; sum = K.mul alpha }
+
+-- her2k: alpha and its conjugate weigh the left factors
+abbrev pub factors_weighed : (K : Kind) → K.Elem → Weights K
+factors_weighed K alpha = record { left_a = K.mul alpha; left_b = K.mul (K.conj alpha); sum = λ x. x }
+
 module _ (K : Kind) (plan : Plan) (a b : List K.Cell) where
   -- the factors of the two products
   abbrev pub left_matrix_a : Matrix K
@@ -30,29 +44,27 @@ module _ (K : Kind) (plan : Plan) (a b : List K.Cell) where
   abbrev pub right_matrix_a : Matrix K
   right_matrix_a = elem_conj K plan.right_conj a plan.right_a
 
-  -- the two products at p, added one after the other, and the sum of the first n pairs
-  abbrev pub pair_at : ℕ → ℕ → ℕ → K.Elem → K.Elem
-  pair_at i j p sum = K.add (K.add sum (K.mul (left_matrix_a i p) (right_matrix_b p j))) (K.mul (left_matrix_b i p) (right_matrix_a p j))
+  module _ (w : Weights K) where
+    -- the two products at p
+    abbrev pub first_at : ℕ → ℕ → ℕ → K.Elem
+    first_at i j p = K.mul (w.left_a (left_matrix_a i p)) (right_matrix_b p j)
 
-  abbrev pub pairs_at : ℕ → ℕ → ℕ → K.Elem
-  pairs_at i j n = pair_sum K n (λ p. K.mul (left_matrix_a i p) (right_matrix_b p j)) (λ p. K.mul (left_matrix_b i p) (right_matrix_a p j))
+    abbrev pub second_at : ℕ → ℕ → ℕ → K.Elem
+    second_at i j p = K.mul (w.left_b (left_matrix_b i p)) (right_matrix_a p j)
 
-  -- the same, the left factors weighed by alpha and by its conjugate
-  abbrev pub weighed_at : K.Elem → ℕ → ℕ → ℕ → K.Elem → K.Elem
-  weighed_at alpha i j p sum =
-      K.add
-      (K.add sum (K.mul (K.mul alpha (left_matrix_a i p)) (right_matrix_b p j)))
-      (K.mul (K.mul (K.conj alpha) (left_matrix_b i p)) (right_matrix_a p j))
+    -- a sum with both added, one after the other, and the sum of the first n pairs
+    abbrev pub pair_at : ℕ → ℕ → ℕ → K.Elem → K.Elem
+    pair_at i j p sum = K.add (K.add sum (first_at i j p)) (second_at i j p)
 
-  abbrev pub weigheds_at : K.Elem → ℕ → ℕ → ℕ → K.Elem
-  weigheds_at alpha i j n =
-      pair_sum K n
-      (λ p. K.mul (K.mul alpha (left_matrix_a i p)) (right_matrix_b p j))
-      (λ p. K.mul (K.mul (K.conj alpha) (left_matrix_b i p)) (right_matrix_a p j))
+    abbrev pub pairs_at : ℕ → ℕ → ℕ → K.Elem
+    pairs_at i j n = pair_sum K n (first_at i j) (second_at i j)
 
-  -- `by_beta` is what beta does to an element
+    -- `by_beta` is what beta does to an element
+    abbrev pub paired_change : (K.Elem → K.Elem) → Change K
+    paired_change by_beta i j old = K.add (by_beta old) (w.sum (pairs_at i j plan.terms))
+
   abbrev pub syr2k_change : K.Elem → (K.Elem → K.Elem) → Change K
-  syr2k_change alpha by_beta i j old = K.add (by_beta old) (K.mul alpha (pairs_at i j plan.terms))
+  syr2k_change alpha by_beta = paired_change (sum_weighed K alpha) by_beta
 
   abbrev pub her2k_change : K.Elem → (K.Elem → K.Elem) → Change K
-  her2k_change alpha by_beta i j old = K.add (by_beta old) (weigheds_at alpha i j plan.terms)
+  her2k_change alpha by_beta = paired_change (factors_weighed K alpha) by_beta

@@ -3,7 +3,7 @@
 ghost use Rattle.std.specs.Prelude.{◌≡◌};
 ghost use Rattle.rank_plan.specs.Plan.{syr_readings, her_readings, paired_plan, syr2k_plan, her2k_plan};
 
-use view::{Trans, UpLo, View, conjugates, op_cols, op_view};
+use view::{Trans, UpLo, View};
 
 // How the left and the right factor of a product are read.
 #[derive(Clone, Copy)]
@@ -35,11 +35,7 @@ fn syr_readings(t: Trans) -> Readings
             left: Trans::NoTrans,
             right: Trans::Trans,
         },
-        Trans::Trans => Readings {
-            left: Trans::Trans,
-            right: Trans::NoTrans,
-        },
-        Trans::ConjTrans => Readings {
+        Trans::Trans | Trans::ConjTrans => Readings {
             left: Trans::Trans,
             right: Trans::NoTrans,
         },
@@ -54,11 +50,7 @@ fn her_readings(t: Trans) -> Readings
             left: Trans::NoTrans,
             right: Trans::ConjTrans,
         },
-        Trans::Trans => Readings {
-            left: Trans::ConjTrans,
-            right: Trans::NoTrans,
-        },
-        Trans::ConjTrans => Readings {
+        Trans::Trans | Trans::ConjTrans => Readings {
             left: Trans::ConjTrans,
             right: Trans::NoTrans,
         },
@@ -69,24 +61,15 @@ fn her_readings(t: Trans) -> Readings
 fn paired_plan(uplo: UpLo, t: Trans, r: Readings, a: View, b: View, c: View) -> Plan
     ensures { result ≡ paired_plan uplo t r a b c }
 {
-    let left = r.left;
-    let right = r.right;
-    let left_a = op_view(left, a);
-    let right_b = op_view(right, b);
-    let left_b = op_view(left, b);
-    let right_a = op_view(right, a);
-    let left_conj = conjugates(left);
-    let right_conj = conjugates(right);
-    let terms = op_cols(t, a);
     Plan {
         uplo,
-        left_a,
-        right_b,
-        left_b,
-        right_a,
-        left_conj,
-        right_conj,
-        terms,
+        left_a: a.op(r.left),
+        right_b: b.op(r.right),
+        left_b: b.op(r.left),
+        right_a: a.op(r.right),
+        left_conj: r.left.conjugates(),
+        right_conj: r.right.conjugates(),
+        terms: a.op_cols(t),
         target: c,
     }
 }

@@ -5,4 +5,3 @@ pub mod Columns
 pub mod EightLaws
 pub mod Shown
 pub mod RunLaws
-mod Words

@@ -6,7 +6,7 @@ use mathlib.Core.Path.{◌≡◌, refl, sym, ap, subst, ◌∙◌}
 use native.Mathlib.Numerals.{add-one}
 use native.Mathlib.Omega.{arith}
 use Rattle.number.specs.Kind.{Kind}
-use Rattle.number.proofs.Commutes.{SelfConjugate}
+use Rattle.number.specs.Laws.{SelfConjugate}
 use Rattle.view.specs.declared.View.{View}
 use Rattle.slabs.specs.Elem.{elem}
 use Rattle.slabs.specs.Run.{elem_conj, plus_terms}

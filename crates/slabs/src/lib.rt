@@ -1,10 +1,11 @@
-// Element access to a lent slab, for each number kind; sums side by side, and the columns that they take.
+// A lent slab as a view shows it; sums side by side, and the columns that they take.
 
 #![tactic(auto)]
 
+mod access;
 mod block;
-pub mod complex;
-pub mod real32;
-pub mod real64;
+mod lanes;
 
+pub use access::{elem, elem_conj, place};
 pub use block::{block_end, block_start};
+pub use lanes::{minus_lanes, plus_beside, plus_conj_lanes, plus_lanes, zeros};

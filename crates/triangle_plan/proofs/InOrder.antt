@@ -5,7 +5,7 @@ use mathlib.Core.List.{List}
 use mathlib.Core.Path.{◌≡◌, refl, ap, ◌∙◌}
 use native.Mathlib.Omega.{arith}
 use Rattle.number.specs.Kind.{Kind}
-use Rattle.number.proofs.SlabLaws.{Swaps}
+use Rattle.number.specs.Laws.{Swaps}
 use Rattle.view.specs.declared.View.{View}
 use Rattle.view.specs.Place.{index}
 use Rattle.slabs.specs.Update.{Mask, update_one, update_row, update_rows, update}

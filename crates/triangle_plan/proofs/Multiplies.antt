@@ -10,7 +10,7 @@ use lib.Arith.{digits_div, digits_mod, digits_lt}
 use lib.Dec.{ltb, leb}
 use Rattle.number.specs.Kind.{Kind}
 use Rattle.number.specs.Laws.{SlabLaws}
-use Rattle.number.proofs.SlabLaws.{Swaps}
+use Rattle.number.specs.Laws.{Swaps}
 use Rattle.view.specs.declared.View.{View}
 use Rattle.view.specs.declared.Trans.{Trans}
 use Rattle.view.specs.declared.UpLo.{UpLo}
@@ -35,7 +35,7 @@ use Rattle.triangle_plan.specs.Triangles.{lines_view, system_of}
 use Rattle.triangle_plan.specs.Multiply.{line_sum, multiply_one, multiply_all}
 use Rattle.triangle_plan.proofs.WalkLaws.{walk-cong, walk-nested}
 use Rattle.triangle_plan.proofs.InOrder.{one_more}
-use Rattle.number.proofs.Commutes.{Commutes}
+use Rattle.number.specs.Laws.{Commutes}
 use Rattle.triangle_plan.proofs.Systems.{turn, line, lines-index}
 use Rattle.triangle_plan.proofs.LineSums.{goes_into, weighs, line_dot, line-sum-is}
 

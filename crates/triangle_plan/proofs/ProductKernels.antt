@@ -5,7 +5,7 @@ use mathlib.Core.List.{List}
 use mathlib.Core.Path.{◌≡◌, refl, ap, ◌∙◌}
 use Rattle.number.specs.Kind.{Kind}
 use Rattle.number.specs.Laws.{SlabLaws}
-use Rattle.number.proofs.SlabLaws.{Swaps}
+use Rattle.number.specs.Laws.{Swaps}
 use Rattle.view.specs.declared.View.{View}
 use Rattle.view.specs.declared.Answer.{Answer}
 use Rattle.view.specs.declared.Trans.{Trans}
@@ -24,7 +24,7 @@ use Rattle.blas.proofs.OutcomeLaws.{gives-work, gives-refusal}
 use Rattle.triangle_plan.specs.declared.System.{System}
 use Rattle.triangle_plan.specs.Triangles.{system_of}
 use Rattle.triangle_plan.specs.Multiply.{multiply_all}
-use Rattle.number.proofs.Commutes.{Commutes}
+use Rattle.number.specs.Laws.{Commutes}
 use Rattle.triangle_plan.proofs.Judged.{vector-runs, matrix-runs, all-inside}
 use Rattle.triangle_plan.proofs.Multiplies.{multiplied-all}
 

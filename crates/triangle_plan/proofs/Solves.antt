@@ -11,7 +11,7 @@ use lib.Arith.{digits_lt, digits_div, digits_mod}
 use lib.Dec.{ltb}
 use Rattle.number.specs.Kind.{Kind}
 use Rattle.number.specs.Laws.{SlabLaws}
-use Rattle.number.proofs.SlabLaws.{Swaps}
+use Rattle.number.specs.Laws.{Swaps}
 use Rattle.view.specs.declared.View.{View}
 use Rattle.view.specs.declared.Answer.{Answer}
 use Rattle.view.specs.declared.Answer.TheVariants.{Done, Singular}
@@ -38,7 +38,7 @@ use Rattle.triangle_plan.specs.Walk.{walk}
 use Rattle.triangle_plan.specs.Triangles.{lines_view, system_of, coefficient}
 use Rattle.triangle_plan.specs.Solve.{by_diag, zero_diag, solve_unknown, solve_unknowns, zero_after, first_zero, stops, answered, lines_solved, Solved}
 use Rattle.triangle_plan.proofs.WalkLaws.{walk-cong, walk-nested, walk-rounds}
-use Rattle.number.proofs.Commutes.{Commutes}
+use Rattle.number.specs.Laws.{Commutes}
 use Rattle.triangle_plan.proofs.Lines.{line-after-line}
 use Rattle.triangle_plan.proofs.Systems.{op_sided, coefficient-is, diagonal-is, turn, line, lines-index, lines-elem}
 

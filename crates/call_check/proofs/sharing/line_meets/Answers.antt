@@ -1,5 +1,9 @@
 -- Of one line, two elements share a place where the stride is 0.
-use Rattle.call_check.proofs.Words.{◌≡◌, ap, sym, ◌∙◌, ℕ, ◌*◌, ◌<◌, one-mul, mul-pos, arith, ltb, ltb-true, lt-ltb, ne_eqb, both_ways, meets, meets→meeting, meeting→meets, missing}
+use Rattle.std.proofs.Common.{◌≡◌, ap, sym, ◌∙◌, ℕ, ◌*◌, ◌<◌, one-mul, mul-pos, arith, ltb, ltb-true, lt-ltb, ne_eqb}
+use Rattle.view.proofs.AnyLaws.{both_ways}
+use Rattle.view.proofs.OverlapLaws.{meets→meeting, meeting→meets}
+use Rattle.view.specs.Steps.{meets}
+use Rattle.call_check.proofs.Multiples.{missing}
 use Rattle.call_check.proofs.sharing.line_meets.Goals as goal
 
 one : (k : ℕ) → k < 1 → k * 0 ≡ 0

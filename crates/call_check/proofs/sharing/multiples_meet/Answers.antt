@@ -1,15 +1,16 @@
 -- Each step keeps what the invariant says, and each way out is decided by it.
-use Rattle.call_check.proofs.Words.{arith, found, missing, first, past, past_next, carry, no-carry, none-meet}
+use Rattle.std.proofs.Common.{arith}
+use Rattle.call_check.proofs.Multiples.{found, missing, first, past, past_next, carry, no-carry, none-meet}
 use Rattle.call_check.proofs.sharing.multiples_meet.Goals as goal
 use Rattle.call_check.proofs.sharing.multiples_meet.Goals.{then-y-m, else-y-m}
 
 pub loop-init : goal.loop-init
-loop-init c = first c.args.x c.args.cols c.args.y c.requires.0
+loop-init c = first c.args.x c.args.cols c.args.y c.requires.moves
 
 pub returns-then-cols-quot : goal.returns-then-cols-quot
 returns-then-cols-quot c =
     let a = c.args in
-    missing _ _ _ _ (none-meet a.rows a.x a.cols a.y c.requires.0 (λ j d s t. past _ _ _ _ _ _ _ _ c.loop.invariant c.if-cols-quot.true j d s))
+    missing _ _ _ _ (none-meet a.rows a.x a.cols a.y c.requires.moves (λ j d s t. past _ _ _ _ _ _ _ _ c.loop.invariant c.if-cols-quot.true j d s))
 
 pub returns-then-rem-eq0 : goal.returns-then-rem-eq0
 returns-then-rem-eq0 c =
@@ -20,7 +21,7 @@ returns-then-rem-eq0 c =
 pub returns-then-cols-quot-2 : goal.returns-then-cols-quot-2
 returns-then-cols-quot-2 c =
     let a = c.args in
-    missing _ _ _ _ (none-meet a.rows a.x a.cols a.y c.requires.0 (λ j d s t. past_next _ _ _ _ _ _ _ _ c.loop.invariant (omega arith) (omega arith) j d s))
+    missing _ _ _ _ (none-meet a.rows a.x a.cols a.y c.requires.moves (λ j d s t. past_next _ _ _ _ _ _ _ _ c.loop.invariant (omega arith) (omega arith) j d s))
 
 pub loop-preserved : goal.loop-preserved
 loop-preserved c =
@@ -32,4 +33,4 @@ loop-preserved c =
 pub returns : goal.returns
 returns c =
     let a = c.args in
-    missing _ _ _ _ (none-meet a.rows a.x a.cols a.y c.requires.0 (λ j d s t u. c.loop.invariant.none j d s (omega arith) u))
+    missing _ _ _ _ (none-meet a.rows a.x a.cols a.y c.requires.moves (λ j d s t u. c.loop.invariant.none j d s (omega arith) u))
