@@ -31,6 +31,21 @@ pub enum Turn {
     PastCol,
 }
 
+impl Turn {
+    // The number of terms before the turn, which is at most n.
+    pub fn at(self, i: usize, j: usize, n: usize) -> usize
+        requires { terms_before self i j ≤ n }
+        ensures { result ≡ terms_before self i j }
+    {
+        match self {
+            Turn::AtRow => i,
+            Turn::PastRow => i + 1,
+            Turn::AtCol => j,
+            Turn::PastCol => j + 1,
+        }
+    }
+}
+
 // The same with an operand of which one triangle is read: the terms before the turn have other factors than those after it.
 #[derive(Clone, Copy)]
 pub struct Folded {
@@ -39,17 +54,4 @@ pub struct Folded {
     pub tail: Factors,
     pub terms: usize,
     pub target: View,
-}
-
-// The number of terms before the turn, which is at most n.
-pub fn turn_at(t: Turn, i: usize, j: usize, n: usize) -> usize
-    requires { terms_before t i j ≤ n }
-    ensures { result ≡ terms_before t i j }
-{
-    match t {
-        Turn::AtRow => i,
-        Turn::PastRow => i + 1,
-        Turn::AtCol => j,
-        Turn::PastCol => j + 1,
-    }
 }

@@ -7,30 +7,25 @@ ghost use Rattle.blas.specs.Herk.{herk_left, herk_right};
 ghost use Rattle.product_plan.specs.Plans.{op_factors, op_plan, turned_plan, column_plan, hemv_plan, left_factors, right_factors, is_upper, row_turn, col_turn, left_plan, right_plan, upper_of, is_left, element_plan, syrk_plan, herk_plan};
 
 use crate::plan::{Factors, Folded, Plan, Turn};
-use view::{Side, Trans, UpLo, View, cols, column, conjugates, op_cols, op_view, rows, transposed};
+use view::{Side, Trans, UpLo, View};
 
 // op(A) and op(B).
 fn op_factors(ta: Trans, tb: Trans, a: View, b: View) -> Factors
     ensures { result ≡ op_factors ta tb a b }
 {
-    let left = op_view(ta, a);
-    let left_conj = conjugates(ta);
-    let right = op_view(tb, b);
-    let right_conj = conjugates(tb);
     Factors {
-        left,
-        left_conj,
-        right,
-        right_conj,
+        left: a.op(ta),
+        left_conj: ta.conjugates(),
+        right: b.op(tb),
+        right_conj: tb.conjugates(),
     }
 }
 
 fn op_plan(ta: Trans, tb: Trans, a: View, b: View, terms: usize, c: View) -> Plan
     ensures { result ≡ op_plan ta tb a b terms c }
 {
-    let factors = op_factors(ta, tb, a, b);
     Plan {
-        factors,
+        factors: op_factors(ta, tb, a, b),
         terms,
         target: c,
     }
@@ -57,9 +52,7 @@ pub fn gemv_plan(conj: bool, a: View, x: View, y: View) -> Plan
     requires { (vector_of x a.cols ≡ true) × (vector_of y a.rows ≡ true) }
     ensures { result ≡ column_plan conj a x y }
 {
-    let b = column(x, a.cols);
-    let c = column(y, a.rows);
-    gemm_plan(conj, a, false, b, c)
+    gemm_plan(conj, a, false, x.column(a.cols), y.column(a.rows))
 }
 
 // A, or its mirror image, on the left of B.
@@ -68,7 +61,7 @@ fn left_factors(mirrored: bool, conj: bool, a: View, b: View) -> Factors
 {
     if mirrored {
         Factors {
-            left: transposed(a),
+            left: a.transposed(),
             left_conj: conj,
             right: b,
             right_conj: false,
@@ -91,7 +84,7 @@ fn right_factors(mirrored: bool, conj: bool, a: View, b: View) -> Factors
         Factors {
             left: b,
             left_conj: false,
-            right: transposed(a),
+            right: a.transposed(),
             right_conj: conj,
         }
     } else {
@@ -107,10 +100,7 @@ fn right_factors(mirrored: bool, conj: bool, a: View, b: View) -> Factors
 fn is_upper(uplo: UpLo) -> bool
     ensures { result ≡ is_upper uplo }
 {
-    match uplo {
-        UpLo::Upper => true,
-        UpLo::Lower => false,
-    }
+    matches!(uplo, UpLo::Upper)
 }
 
 // Where row i of A leaves a triangle: the upper one begins with the diagonal, the lower one ends with it.
@@ -138,13 +128,10 @@ pub fn left_plan(conj: bool, uplo: UpLo, a: View, b: View, terms: usize, c: View
     ensures { result ≡ left_plan conj uplo a b terms c }
 {
     let upper = is_upper(uplo);
-    let turn = row_turn(uplo);
-    let head = left_factors(upper, conj, a, b);
-    let tail = left_factors(!upper, conj, a, b);
     Folded {
-        turn,
-        head,
-        tail,
+        turn: row_turn(uplo),
+        head: left_factors(upper, conj, a, b),
+        tail: left_factors(!upper, conj, a, b),
         terms,
         target: c,
     }
@@ -155,13 +142,10 @@ pub fn right_plan(conj: bool, uplo: UpLo, a: View, b: View, terms: usize, c: Vie
     ensures { result ≡ right_plan conj uplo a b terms c }
 {
     let upper = is_upper(uplo);
-    let turn = col_turn(uplo);
-    let head = right_factors(!upper, conj, a, b);
-    let tail = right_factors(upper, conj, a, b);
     Folded {
-        turn,
-        head,
-        tail,
+        turn: col_turn(uplo),
+        head: right_factors(!upper, conj, a, b),
+        tail: right_factors(upper, conj, a, b),
         terms,
         target: c,
     }
@@ -173,17 +157,14 @@ pub fn upper_view(uplo: UpLo, a: View) -> View
 {
     match uplo {
         UpLo::Upper => a,
-        UpLo::Lower => transposed(a),
+        UpLo::Lower => a.transposed(),
     }
 }
 
 pub fn is_left(side: Side) -> bool
     ensures { result ≡ is_left side }
 {
-    match side {
-        Side::Left => true,
-        Side::Right => false,
-    }
+    matches!(side, Side::Left)
 }
 
 // A on the left of B, its upper triangle read in u; on the right, the transposed call, of which element (j, i) is the call's (i, j).
@@ -191,8 +172,15 @@ pub fn element_plan(side: Side, u: View, b: View, c: View) -> Folded
     ensures { result ≡ element_plan side u b c }
 {
     match side {
-        Side::Left => left_plan(false, UpLo::Upper, u, b, rows(c), c),
-        Side::Right => left_plan(false, UpLo::Upper, u, transposed(b), cols(c), transposed(c)),
+        Side::Left => left_plan(false, UpLo::Upper, u, b, c.rows, c),
+        Side::Right => left_plan(
+            false,
+            UpLo::Upper,
+            u,
+            b.transposed(),
+            c.cols,
+            c.transposed(),
+        ),
     }
 }
 
@@ -200,10 +188,8 @@ pub fn hemv_plan(uplo: UpLo, a: View, x: View, y: View) -> Folded
     requires { (vector_of x a.rows ≡ true) × (vector_of y a.rows ≡ true) }
     ensures { result ≡ hemv_plan uplo a x y }
 {
-    let n = rows(a);
-    let b = column(x, n);
-    let c = column(y, n);
-    left_plan(true, uplo, a, b, n, c)
+    let n = a.rows;
+    left_plan(true, uplo, a, x.column(n), n, y.column(n))
 }
 
 fn syrk_left(t: Trans) -> Trans
@@ -211,8 +197,7 @@ fn syrk_left(t: Trans) -> Trans
 {
     match t {
         Trans::NoTrans => Trans::NoTrans,
-        Trans::Trans => Trans::Trans,
-        Trans::ConjTrans => Trans::Trans,
+        Trans::Trans | Trans::ConjTrans => Trans::Trans,
     }
 }
 
@@ -221,8 +206,7 @@ fn syrk_right(t: Trans) -> Trans
 {
     match t {
         Trans::NoTrans => Trans::Trans,
-        Trans::Trans => Trans::NoTrans,
-        Trans::ConjTrans => Trans::NoTrans,
+        Trans::Trans | Trans::ConjTrans => Trans::NoTrans,
     }
 }
 
@@ -231,8 +215,7 @@ fn herk_left(t: Trans) -> Trans
 {
     match t {
         Trans::NoTrans => Trans::NoTrans,
-        Trans::Trans => Trans::ConjTrans,
-        Trans::ConjTrans => Trans::ConjTrans,
+        Trans::Trans | Trans::ConjTrans => Trans::ConjTrans,
     }
 }
 
@@ -241,25 +224,18 @@ fn herk_right(t: Trans) -> Trans
 {
     match t {
         Trans::NoTrans => Trans::ConjTrans,
-        Trans::Trans => Trans::NoTrans,
-        Trans::ConjTrans => Trans::NoTrans,
+        Trans::Trans | Trans::ConjTrans => Trans::NoTrans,
     }
 }
 
 pub fn syrk_plan(t: Trans, a: View, c: View) -> Plan
     ensures { result ≡ syrk_plan t a c }
 {
-    let left = syrk_left(t);
-    let right = syrk_right(t);
-    let terms = op_cols(t, a);
-    op_plan(left, right, a, a, terms, c)
+    op_plan(syrk_left(t), syrk_right(t), a, a, a.op_cols(t), c)
 }
 
 pub fn herk_plan(t: Trans, a: View, c: View) -> Plan
     ensures { result ≡ herk_plan t a c }
 {
-    let left = herk_left(t);
-    let right = herk_right(t);
-    let terms = op_cols(t, a);
-    op_plan(left, right, a, a, terms, c)
+    op_plan(herk_left(t), herk_right(t), a, a, a.op_cols(t), c)
 }

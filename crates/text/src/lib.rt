@@ -1,154 +1,116 @@
-// Numbers and judgements as text, on the standard output. A number is written as what it is, then its bits in brackets, in hexadecimal.
+// Numbers and judgements as text. A number is written as what it is, then its bits in brackets, in hexadecimal.
 
 #![tactic(auto)]
 
-use number::{Beta32, Beta64, BetaComplex, Complex, Multiplier, Real32, Real64};
-use std::io;
+ghost use Rattle.std.specs.Prelude.{◌≡◌, codes, if◌then◌else◌};
 
-pub fn text(rt: &impl Print, s: &[u8]) -> io::Result<()> {
-    rt.write_all(s)
+use number::{Beta, Complex, Multiplier};
+use std::fmt;
+use std::num::{nearest_u64_to_f64, saturating_f64_to_i64, saturating_f64_to_u64};
+
+pub fn yes_or_no(yes: bool) -> &'static str
+    ensures { result.now ≡ (if yes then codes "yes" else codes "no") }
+{
+    if yes { "yes" } else { "no" }
 }
 
-pub fn answer(rt: &impl Print, yes: bool) -> io::Result<()> {
-    if yes {
-        text(rt, b"yes")
-    } else {
-        text(rt, b"no")
+// A number, or a beta that was judged, shown with its bits.
+#[derive(Clone, Copy)]
+pub struct Shown<T>(pub T);
+
+// std has no trait over f64 and f32 with these methods, so each has its own lines.
+impl fmt::Display for Shown<f64> {
+    fn fmt<W: fmt::Write>(&self, f: &mut fmt::Formatter<W>) -> fmt::Result {
+        let x = self.0;
+        if x.is_nan() {
+            return write!(f, "NaN");
+        }
+        let word = Word {
+            negative: x.is_sign_negative(),
+            size: x.abs(),
+            subnormal: x.is_subnormal(),
+        };
+        write!(f, "{word} [{:016x}]", x.to_bits())
     }
 }
 
-pub fn real64(rt: &impl Print, x: Real64) -> io::Result<()> {
-    let v = x.0;
-    if v != v {
-        return text(rt, b"NaN");
+impl fmt::Display for Shown<f32> {
+    fn fmt<W: fmt::Write>(&self, f: &mut fmt::Formatter<W>) -> fmt::Result {
+        let x = self.0;
+        if x.is_nan() {
+            return write!(f, "NaN");
+        }
+        let word = Word {
+            negative: x.is_sign_negative(),
+            size: f64::from(x.abs()),
+            subnormal: x.is_subnormal(),
+        };
+        write!(f, "{word} [{:08x}]", x.to_bits())
     }
-    let pattern = f64::to_bits(v);
-    word(
-        rt,
-        pattern >= 0x8000_0000_0000_0000,
-        v,
-        2.2250738585072014e-308,
-    )?;
-    bits(rt, pattern, 16)
 }
 
-pub fn real32(rt: &impl Print, x: Real32) -> io::Result<()> {
-    let v = x.0;
-    if v != v {
-        return text(rt, b"NaN");
+impl fmt::Display for Shown<Complex> {
+    fn fmt<W: fmt::Write>(&self, f: &mut fmt::Formatter<W>) -> fmt::Result {
+        write!(f, "({}, {})", Shown(self.0.re), Shown(self.0.im))
     }
-    let pattern = f32::to_bits(v);
-    word(
-        rt,
-        pattern >= 0x8000_0000,
-        std::num::f32_to_f64_with_nan(v),
-        1.1754943508222875e-38,
-    )?;
-    bits(rt, u64::from(pattern), 8)
 }
 
-pub fn complex(rt: &impl Print, z: Complex) -> io::Result<()> {
-    text(rt, b"(")?;
-    real64(rt, Real64(z.re))?;
-    text(rt, b", ")?;
-    real64(rt, Real64(z.im))?;
-    text(rt, b")")
-}
-
-pub fn beta64(rt: &impl Print, beta: Beta64) -> io::Result<()> {
-    match beta {
-        Beta64::Clear => text(rt, b"Clear"),
-        Beta64::Keep => text(rt, b"Keep"),
-        Beta64::Factor(b) => {
-            text(rt, b"Factor ")?;
-            real64(rt, Real64(b))
+impl fmt::Display for Shown<Multiplier> {
+    fn fmt<W: fmt::Write>(&self, f: &mut fmt::Formatter<W>) -> fmt::Result {
+        match self.0 {
+            Multiplier::Number(b) => write!(f, "{}", Shown(b)),
+            Multiplier::Real(v) => write!(f, "{}", Shown(v)),
         }
     }
 }
 
-pub fn beta32(rt: &impl Print, beta: Beta32) -> io::Result<()> {
-    match beta {
-        Beta32::Clear => text(rt, b"Clear"),
-        Beta32::Keep => text(rt, b"Keep"),
-        Beta32::Factor(b) => {
-            text(rt, b"Factor ")?;
-            real32(rt, Real32(b))
+impl<M: Copy> fmt::Display for Shown<Beta<M>>
+where
+    Shown<M>: fmt::Display,
+{
+    fn fmt<W: fmt::Write>(&self, f: &mut fmt::Formatter<W>) -> fmt::Result {
+        match self.0 {
+            Beta::Clear => write!(f, "Clear"),
+            Beta::Keep => write!(f, "Keep"),
+            Beta::Factor(m) => write!(f, "Factor {}", Shown(m)),
         }
     }
 }
 
-pub fn beta_complex(rt: &impl Print, beta: BetaComplex) -> io::Result<()> {
-    match beta {
-        BetaComplex::Clear => text(rt, b"Clear"),
-        BetaComplex::Keep => text(rt, b"Keep"),
-        BetaComplex::Factor(m) => {
-            text(rt, b"Factor ")?;
-            multiplier(rt, m)
+// What a number that is no NaN is, by its sign, its size, and whether this is below the normal ones of its width.
+#[derive(Clone, Copy)]
+struct Word {
+    negative: bool,
+    size: f64,
+    subnormal: bool,
+}
+
+impl fmt::Display for Word {
+    fn fmt<W: fmt::Write>(&self, f: &mut fmt::Formatter<W>) -> fmt::Result {
+        if self.negative {
+            write!(f, "-")?;
+        }
+        match whole(self.size) {
+            Some(n) => write!(f, "{n}"),
+            None if self.subnormal => write!(f, "subnormal"),
+            None if self.size.is_infinite() => write!(f, "inf"),
+            None => write!(f, "fraction"),
         }
     }
 }
 
-fn multiplier(rt: &impl Print, m: Multiplier) -> io::Result<()> {
-    match m {
-        Multiplier::Number(b) => complex(rt, b),
-        Multiplier::Real(v) => real64(rt, Real64(v)),
-    }
-}
-
-fn bits(rt: &impl Print, n: u64, digits: usize) -> io::Result<()> {
-    print!(rt; " [{n:0digits$x}]")
-}
-
-// What x, which is no NaN, is. `normal` is the smallest normal number of its format.
-fn word(rt: &impl Print, negative: bool, x: f64, normal: f64) -> io::Result<()> {
-    if negative {
-        text(rt, b"-")?;
-        magnitude(rt, -x, normal)
-    } else {
-        magnitude(rt, x, normal)
-    }
-}
-
-fn magnitude(rt: &impl Print, x: f64, normal: f64) -> io::Result<()> {
-    let n = whole_part(x);
-    if std::num::nearest_u64_to_f64(n) == x {
-        print!(rt; "{n}")
-    } else if x < normal {
-        text(rt, b"subnormal")
-    } else if x < 1.0 / 0.0 {
-        text(rt, b"fraction")
-    } else {
-        text(rt, b"inf")
-    }
-}
-
-// x without its fraction; 0 where that is no u64.
-fn whole_part(x: f64) -> u64 {
-    if x > -1.0 {
-        if x < 18446744073709551616.0 {
-            return std::num::truncating_f64_to_u64(x);
-        }
-    }
-    0
+// x as a whole number below 2^64, where it is one.
+fn whole(x: f64) -> Option<u64> {
+    let n = saturating_f64_to_u64(x);
+    (x < 18446744073709551616.0 && nearest_u64_to_f64(n) == x).then_some(n)
 }
 
 // A whole number of at most three digits, in a column seven wide.
-pub fn column(rt: &impl Print, x: f64) -> io::Result<()> {
-    if x < 0.0 {
-        right(rt, whole_part(-x), b"-")
-    } else {
-        right(rt, whole_part(x), b" ")
-    }
-}
+#[derive(Clone, Copy)]
+pub struct Column(pub f64);
 
-fn right(rt: &impl Print, n: u64, sign: &[u8]) -> io::Result<()> {
-    if n < 10 {
-        text(rt, b"     ")?;
-    } else if n < 100 {
-        text(rt, b"    ")?;
-    } else {
-        text(rt, b"   ")?;
+impl fmt::Display for Column {
+    fn fmt<W: fmt::Write>(&self, f: &mut fmt::Formatter<W>) -> fmt::Result {
+        write!(f, "{:>7}", saturating_f64_to_i64(self.0))
     }
-    text(rt, sign)?;
-    print!(rt; "{n}")
 }

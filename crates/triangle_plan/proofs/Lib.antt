@@ -11,4 +11,3 @@ pub mod Solves
 pub mod SolveKernels
 pub mod Multiplies
 pub mod ProductKernels
-mod Words

@@ -15,7 +15,7 @@ use Rattle.view.specs.declared.Diag.TheVariants.{NonUnit, Unit}
 use Rattle.view.specs.declared.Side.{Side}
 use Rattle.view.specs.declared.Side.TheVariants.{Left, Right}
 use Rattle.view.specs.Checks.{order_of}
-use Rattle.slabs.specs.Eight.{Eight}
+use Rattle.slabs.specs.Eight.{lane, Lanes}
 use Rattle.slabs.specs.Elem.{elem}
 use Rattle.slabs.specs.Run.{plus_terms}
 use Rattle.blas.specs.Matrix.{Matrix, op, sum_over}
@@ -188,19 +188,19 @@ module _ (K : Kind) (y : System) (a s : List K.Cell) (q l : ℕ) (c x o z : K.El
   pub sum-before : (sum r : K.Elem) → y.last ≡ false → sum ≡ plus_terms K z (line_term K y a s q l) 0 q → r ≡ K.add sum o → r ≡ line_sum K y a s q l
   sum-before sum r h summed e = line_before K y a s q l z q r h begun refl (own-last-is K y a s q l 0 q z o sum r summed own-term e)
 
--- of eight lines, with eight zeros to begin from
-module _ (K : Kind) (y : System) (a s : List K.Cell) (q l : ℕ) (c z : K.Elem) (zs rs : List K.Cell) (weighed : c ≡ own_diag K y.diag (coefficient K y a q q))
-    (all : Eight K zs (λ t. z)) (begun : z ≡ K.zero) where
-  pub sums-behind : (m : ℕ) (xs : List K.Cell) → y.last ≡ true → m ≡ y.b.rows → Eight K xs (λ t. K.add (K.at zs t) (K.mul c (elem K s y.b q (l + t))))
-      → Eight K rs (λ t. plus_terms K (K.at xs t) (line_term K y a s q (l + t)) (q + 1) (m - 1 - q)) → Eight K rs (λ t. line_sum K y a s q (l + t))
+-- of w lines, with w zeros to begin from
+module _ (K : Kind) (y : System) (a s : List K.Cell) (q l : ℕ) (w : ℕ) (c z : K.Elem) (zs rs : List K.Elem) (weighed : c ≡ own_diag K y.diag (coefficient K y a q q))
+    (all : Lanes K w zs (λ t. z)) (begun : z ≡ K.zero) where
+  pub sums-behind : (m : ℕ) (xs : List K.Elem) → y.last ≡ true → m ≡ y.b.rows → Lanes K w xs (λ t. K.add (lane K zs t) (K.mul c (elem K s y.b q (l + t))))
+      → Lanes K w rs (λ t. plus_terms K (lane K xs t) (line_term K y a s q (l + t)) (q + 1) (m - 1 - q)) → Lanes K w rs (λ t. line_sum K y a s q (l + t))
   sums-behind m xs h counted began e = record {
     count = e.count;
-    sum = λ t g. sum-behind K y a s q (l + t) c _ _ (K.at zs t) weighed refl refl (all.sum t g ∙ begun) m (K.at xs t) (K.at rs t) h counted (began.sum t g) (e.sum t g);
+    sum = λ t g. sum-behind K y a s q (l + t) c _ _ (lane K zs t) weighed refl refl (all.sum t g ∙ begun) m (lane K xs t) (lane K rs t) h counted (began.sum t g) (e.sum t g);
   }
 
-  pub sums-before : (xs : List K.Cell) → y.last ≡ false → Eight K xs (λ t. plus_terms K (K.at zs t) (line_term K y a s q (l + t)) 0 q)
-      → Eight K rs (λ t. K.add (K.at xs t) (K.mul c (elem K s y.b q (l + t)))) → Eight K rs (λ t. line_sum K y a s q (l + t))
+  pub sums-before : (xs : List K.Elem) → y.last ≡ false → Lanes K w xs (λ t. plus_terms K (lane K zs t) (line_term K y a s q (l + t)) 0 q)
+      → Lanes K w rs (λ t. K.add (lane K xs t) (K.mul c (elem K s y.b q (l + t)))) → Lanes K w rs (λ t. line_sum K y a s q (l + t))
   sums-before xs h summed e = record {
     count = e.count;
-    sum = λ t g. sum-before K y a s q (l + t) c _ _ (K.at zs t) weighed refl refl (all.sum t g ∙ begun) (K.at xs t) (K.at rs t) h (summed.sum t g) (e.sum t g);
+    sum = λ t g. sum-before K y a s q (l + t) c _ _ (lane K zs t) weighed refl refl (all.sum t g ∙ begun) (lane K xs t) (lane K rs t) h (summed.sum t g) (e.sum t g);
   }

@@ -11,13 +11,13 @@ use Rattle.number.specs.Laws.{Swaps}
 use Rattle.view.specs.declared.View.{View}
 use Rattle.view.specs.Place.{index}
 use Rattle.slabs.specs.Distinct.{Distinct}
-use Rattle.slabs.specs.Eight.{Eight}
+use Rattle.slabs.specs.Eight.{lane, Lanes}
 use Rattle.slabs.specs.Elem.{elem}
 use Rattle.blas.specs.Substitution.{in_order, least_solved, minus_terms}
 use Rattle.blas.proofs.SubstitutionLaws.{minus-cong, in-order-lt, solved-below}
 use Rattle.triangle_plan.specs.declared.System.{System}
 use Rattle.triangle_plan.specs.Walk.{walk}
-use Rattle.triangle_plan.specs.Eights.{put_eight}
+use Rattle.triangle_plan.specs.Lanes.{put_lanes}
 use Rattle.triangle_plan.specs.Triangles.{coefficient}
 use Rattle.triangle_plan.specs.Solve.{by_diag, unknown_value, solve_unknown, solve_unknowns}
 use Rattle.triangle_plan.specs.Multiply.{own_diag, own, line_term, line_sum, multiply_one, multiply_across, multiply_all}
@@ -84,17 +84,17 @@ module _ (K : Kind) (L : SlabLaws K) (y : System) (begin : K.Elem → K.Elem) (a
   unfolding solve_unknown
   line-after-line W m h s = exchange K y.b apart unknown_of unknown_at (in-order-lt y.last y.b.rows) unknown-unread W m h s
 
-  -- an unknown of eight lines, by parts
-  pub solve-eight-is : (k l first end m q from : ℕ) (xs rs ys s s' : List K.Cell) → k < y.b.rows → l + 7 < y.b.cols → first ≤ end → end ≤ 8
-      → m ≡ y.b.rows → q ≡ in_order y.last m k → from ≡ least_solved y.last m k → Eight K xs (λ t. begin (elem K s y.b q (l + t)))
-      → Eight K rs (λ t. minus_terms K (K.at xs t) (λ p. K.mul (coefficient K y a q p) (elem K s y.b p (l + t))) from k)
-      → Eight K ys (λ t. by_diag K y.diag (coefficient K y a q q) (K.at rs t)) → s' ≡ put_eight K y.b q l first ys (end - first) s
+  -- an unknown of w lines, by parts
+  pub solve-lanes-is : (w k l first end m q from : ℕ) (xs rs ys : List K.Elem) (s s' : List K.Cell) → k < y.b.rows → l + w ≤ y.b.cols → first ≤ end → end ≤ w
+      → m ≡ y.b.rows → q ≡ in_order y.last m k → from ≡ least_solved y.last m k → Lanes K w xs (λ t. begin (elem K s y.b q (l + t)))
+      → Lanes K w rs (λ t. minus_terms K (lane K xs t) (λ p. K.mul (coefficient K y a q p) (elem K s y.b p (l + t))) from k)
+      → Lanes K w ys (λ t. by_diag K y.diag (coefficient K y a q q) (lane K rs t)) → s' ≡ put_lanes K y.b q l first ys (end - first) s
       → s' ≡ walk (end - first) (λ i. solve_unknown K y begin a k (l + (first + i))) s
   unfolding solve_unknown
-  solve-eight-is k l first end m q from xs rs ys s s' h room order short counted here there begun reduced divided e =
+  solve-lanes-is w k l first end m q from xs rs ys s s' h room order short counted here there begun reduced divided e =
       e
-      ∙ ap (λ (u : ℕ). put_eight K y.b u l first ys (end - first) s) found
-      ∙ at_once K y.b apart unknown_of unknown_at (in-order-lt y.last y.b.rows) unknown-unread k l first (end - first) (λ i. K.at ys (first + i)) s h (omega arith)
+      ∙ ap (λ (u : ℕ). put_lanes K y.b u l first ys (end - first) s) found
+      ∙ at_once K y.b apart unknown_of unknown_at (in-order-lt y.last y.b.rows) unknown-unread k l first (end - first) (λ i. lane K ys (first + i)) s h (omega arith)
       (λ i g. worth (first + i) (omega arith))
     where
       found : q ≡ unknown_of k
@@ -103,7 +103,7 @@ module _ (K : Kind) (L : SlabLaws K) (y : System) (begin : K.Elem → K.Elem) (a
       since : from ≡ least_solved y.last y.b.rows k
       since = there ∙ ap (λ (c : ℕ). least_solved y.last c k) counted
 
-      worth : (t : ℕ) → t < 8 → K.at ys t ≡ unknown_at k (l + t) s
+      worth : (t : ℕ) → t < w → lane K ys t ≡ unknown_at k (l + t) s
       worth t g =
           divided.sum t g
           ∙ ap (by_diag K y.diag (coefficient K y a q q))
@@ -148,19 +148,19 @@ module _ (K : Kind) (L : SlabLaws K) (y : System) (a : List K.Cell) (begin : K.E
       ∙ ap (λ (n : ℕ). walk n (λ k. multiply_across K y a begin k) s₀) counted
       ∙ exchange K y.b apart element_of element_at element-below element-unread W y.b.rows (omega arith) s₀
 
-  -- an element of eight lines, by parts
-  pub multiply-eight-is : (k l first m q : ℕ) (last : Bool) (xs ys s s' : List K.Cell) → k < y.b.rows → l + 7 < y.b.cols → first ≤ 8 → last ≡ not y.last
-      → m ≡ y.b.rows → q ≡ in_order last m k → Eight K xs (λ t. line_sum K y a s q (l + t)) → Eight K ys (λ t. begin (K.at xs t))
-      → s' ≡ put_eight K y.b q l first ys (8 - first) s → s' ≡ walk (8 - first) (λ i. multiply_one K y a begin k (l + (first + i))) s
+  -- an element of w lines, by parts
+  pub multiply-lanes-is : (w k l first m q : ℕ) (last : Bool) (xs ys : List K.Elem) (s s' : List K.Cell) → k < y.b.rows → l + w ≤ y.b.cols → first ≤ w → last ≡ not y.last
+      → m ≡ y.b.rows → q ≡ in_order last m k → Lanes K w xs (λ t. line_sum K y a s q (l + t)) → Lanes K w ys (λ t. begin (lane K xs t))
+      → s' ≡ put_lanes K y.b q l first ys (w - first) s → s' ≡ walk (w - first) (λ i. multiply_one K y a begin k (l + (first + i))) s
   unfolding multiply_one
-  multiply-eight-is k l first m q last xs ys s s' h room short turned counted here summed weighed e =
+  multiply-lanes-is w k l first m q last xs ys s s' h room short turned counted here summed weighed e =
       e
-      ∙ ap (λ (u : ℕ). put_eight K y.b u l first ys (8 - first) s) found
-      ∙ at_once K y.b apart element_of element_at element-below element-unread k l first (8 - first) (λ i. K.at ys (first + i)) s h (omega arith)
+      ∙ ap (λ (u : ℕ). put_lanes K y.b u l first ys (w - first) s) found
+      ∙ at_once K y.b apart element_of element_at element-below element-unread k l first (w - first) (λ i. lane K ys (first + i)) s h (omega arith)
       (λ i g. worth (first + i) (omega arith))
     where
       found : q ≡ element_of k
       found = here ∙ (λ i. in_order (turned i) (counted i) k)
 
-      worth : (t : ℕ) → t < 8 → K.at ys t ≡ element_at k (l + t) s
+      worth : (t : ℕ) → t < w → lane K ys t ≡ element_at k (l + t) s
       worth t g = weighed.sum t g ∙ ap begin (summed.sum t g ∙ ap (λ (u : ℕ). line_sum K y a s u (l + t)) found)

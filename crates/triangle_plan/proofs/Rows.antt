@@ -2,6 +2,7 @@
 use Prim.Native.Nat.{ℕ, zero, suc, ◌+◌, ◌-◌, ◌≤◌, ◌<◌}
 use mathlib.Core.Bool.{Bool, true, false, not, cond}
 use mathlib.Core.List.{List}
+use lib.ListN.{length}
 use mathlib.Core.Path.{◌≡◌, refl, ap, sym, subst, ◌∙◌}
 use native.Mathlib.Omega.{arith}
 use Rattle.number.specs.Kind.{Kind}
@@ -10,7 +11,7 @@ use Rattle.number.specs.Laws.{Commutes, SelfConjugate}
 use Rattle.view.specs.Place.{index, transposed_of}
 use Rattle.view.proofs.TransposeLaws.{transposed-accepted}
 use Rattle.slabs.specs.Distinct.{Distinct}
-use Rattle.slabs.specs.Eight.{Eight}
+use Rattle.slabs.specs.Eight.{lane, Lanes}
 use Rattle.slabs.specs.Elem.{elem, Within}
 use Rattle.slabs.specs.Run.{plus_terms}
 use Rattle.slabs.proofs.RunLaws.{elem-own, plus-first, plus-on, plus-done, run-run}
@@ -19,7 +20,7 @@ use Rattle.blas.proofs.OpLaws.{transposed-elem}
 use Rattle.blas.proofs.SubstitutionLaws.{in-order-lt}
 use Rattle.triangle_plan.specs.declared.System.{System}
 use Rattle.triangle_plan.specs.Walk.{walk}
-use Rattle.triangle_plan.specs.Eights.{eight_from, put_rows}
+use Rattle.triangle_plan.specs.Lanes.{eight_from, put_rows}
 use Rattle.triangle_plan.specs.Multiply.{own_diag, own, line_term, own_first, own_last, line_sum, multiply_one}
 use Rattle.triangle_plan.specs.Triangles.{coefficient}
 use Rattle.triangle_plan.specs.Ready.{ReadyAt, RowsReady}
@@ -42,22 +43,22 @@ module _ (y : System) (la lb q : ℕ) (r : RowsReady y la lb q) where
 
 -- ---- terms added to each of eight rows, from unknown `from` on
 
-module _ (K : Kind) (S : SelfConjugate K) (C : Commutes K) (y : System) (a b : List K.Cell) (q from : ℕ) (xs : List K.Cell) where
+module _ (K : Kind) (S : SelfConjugate K) (C : Commutes K) (y : System) (a b : List K.Cell) (q from : ℕ) (xs : List K.Elem) where
   abbrev row_term : ℕ → ℕ → K.Elem
   row_term t p = line_term K y a b (q + t) 0 p
 
   abbrev more_rows : ℕ → ℕ → K.Elem
-  more_rows n t = plus_terms K (K.at xs t) (row_term t) from n
+  more_rows n t = plus_terms K (lane K xs t) (row_term t) from n
 
-  pub rows-first : K.count xs ≡ 8 → Eight K xs (more_rows (from - from))
-  rows-first many = record { count = many; sum = λ t g. plus-first K (row_term t) (K.at xs t) from }
+  pub rows-first : length xs ≡ 8 → Lanes K 8 xs (more_rows (from - from))
+  rows-first many = record { count = many; sum = λ t g. plus-first K (row_term t) (lane K xs t) from }
 
   -- x is unknown p; the factors are multiplied in the other order
-  pub rows_on : (p : ℕ) (ys zs : List K.Cell) (x : K.Elem) → from ≤ p → x ≡ elem K b y.b p 0 → Eight K ys (more_rows (p - from))
-      → Eight K zs (λ t. K.add (K.at ys t) (K.mul x (elem K a (transposed_of y.a) p (q + t)))) → Eight K zs (more_rows (p + 1 - from))
+  pub rows_on : (p : ℕ) (ys zs : List K.Elem) (x : K.Elem) → from ≤ p → x ≡ elem K b y.b p 0 → Lanes K 8 ys (more_rows (p - from))
+      → Lanes K 8 zs (λ t. K.add (lane K ys t) (K.mul x (elem K a (transposed_of y.a) p (q + t)))) → Lanes K 8 zs (more_rows (p + 1 - from))
   rows_on p ys zs x h read e d = record {
     count = d.count;
-    sum = λ t g. plus-on K (row_term t) (K.at xs t) from p (K.at ys t) (K.mul x (elem K a (transposed_of y.a) p (q + t))) (K.at zs t) h (e.sum t g) (is-term t) (d.sum t g);
+    sum = λ t g. plus-on K (row_term t) (lane K xs t) from p (lane K ys t) (K.mul x (elem K a (transposed_of y.a) p (q + t))) (lane K zs t) h (e.sum t g) (is-term t) (d.sum t g);
   }
     where
       is-term : (t : ℕ) → K.mul x (elem K a (transposed_of y.a) p (q + t)) ≡ row_term t p
@@ -65,18 +66,18 @@ module _ (K : Kind) (S : SelfConjugate K) (C : Commutes K) (y : System) (a b : L
           C.commutes x (elem K a (transposed_of y.a) p (q + t))
           ∙ (λ i. K.mul ((transposed-elem K a y.a p (q + t) ∙ elem-own K S y.conjugated a y.a (q + t) p) i) (read i))
 
-  pub rows-done : (n p end : ℕ) (ys : List K.Cell) → end ≡ from + n → p ≤ end → end ≤ p → Eight K ys (more_rows (p - from)) → Eight K ys (more_rows n)
-  rows-done n p end ys counted h g e = record { count = e.count; sum = λ t k. plus-done K (row_term t) (K.at xs t) from n p end (K.at ys t) counted h g (e.sum t k) }
+  pub rows-done : (n p end : ℕ) (ys : List K.Elem) → end ≡ from + n → p ≤ end → end ≤ p → Lanes K 8 ys (more_rows (p - from)) → Lanes K 8 ys (more_rows n)
+  rows-done n p end ys counted h g e = record { count = e.count; sum = λ t k. plus-done K (row_term t) (lane K xs t) from n p end (lane K ys t) counted h g (e.sum t k) }
 
 -- ---- a row's pieces are its sum
 
-module _ (K : Kind) (y : System) (a s : List K.Cell) (q : ℕ) (xs rs : List K.Cell) where
+module _ (K : Kind) (y : System) (a s : List K.Cell) (q : ℕ) (xs rs : List K.Elem) where
   -- the own term, those behind it among the eight, and those behind the eight
-  pub rows_behind : (m : ℕ) → y.last ≡ true → m ≡ y.b.rows → q + 8 ≤ m → Eight K xs (λ t. own_first K y a s (q + t) 0 (7 - t))
-      → Eight K rs (λ t. plus_terms K (K.at xs t) (line_term K y a s (q + t) 0) (q + 8) (m - 8 - q)) → Eight K rs (λ t. line_sum K y a s (q + t) 0)
-  rows_behind m h counted room near far = record { count = far.count; sum = λ t g. line-behind K y a s (q + t) 0 m (K.at rs t) h counted (far.sum t g ∙ joined t g) }
+  pub rows_behind : (m : ℕ) → y.last ≡ true → m ≡ y.b.rows → q + 8 ≤ m → Lanes K 8 xs (λ t. own_first K y a s (q + t) 0 (7 - t))
+      → Lanes K 8 rs (λ t. plus_terms K (lane K xs t) (line_term K y a s (q + t) 0) (q + 8) (m - 8 - q)) → Lanes K 8 rs (λ t. line_sum K y a s (q + t) 0)
+  rows_behind m h counted room near far = record { count = far.count; sum = λ t g. line-behind K y a s (q + t) 0 m (lane K rs t) h counted (far.sum t g ∙ joined t g) }
     where
-      joined : (t : ℕ) → t < 8 → plus_terms K (K.at xs t) (line_term K y a s (q + t) 0) (q + 8) (m - 8 - q) ≡ own_first K y a s (q + t) 0 (m - 1 - (q + t))
+      joined : (t : ℕ) → t < 8 → plus_terms K (lane K xs t) (line_term K y a s (q + t) 0) (q + 8) (m - 8 - q) ≡ own_first K y a s (q + t) 0 (m - 1 - (q + t))
       joined t g =
           let d : q + 8 ≡ suc (q + t) + (7 - t) = omega arith in
           let c : (7 - t) + (m - 8 - q) ≡ m - 1 - (q + t) = omega arith in
@@ -85,12 +86,12 @@ module _ (K : Kind) (y : System) (a s : List K.Cell) (q : ℕ) (xs rs : List K.C
           ∙ ap (own_first K y a s (q + t) 0) c
 
   -- the terms before the eight, those before the own one among the eight, and the own one
-  pub rows_before : (zs : List K.Cell) (z : K.Elem) → y.last ≡ false → Eight K zs (λ t. z) → z ≡ K.zero
-      → Eight K xs (λ t. plus_terms K (K.at zs t) (line_term K y a s (q + t) 0) 0 q)
-      → Eight K rs (λ t. own_last K y a s (q + t) 0 (K.at xs t) q (q + t - q)) → Eight K rs (λ t. line_sum K y a s (q + t) 0)
-  rows_before zs z h none begun far near = record { count = near.count; sum = λ t g. line_before K y a s (q + t) 0 K.zero (q + t) (K.at rs t) h refl refl (near.sum t g ∙ joined t g) }
+  pub rows_before : (zs : List K.Elem) (z : K.Elem) → y.last ≡ false → Lanes K 8 zs (λ t. z) → z ≡ K.zero
+      → Lanes K 8 xs (λ t. plus_terms K (lane K zs t) (line_term K y a s (q + t) 0) 0 q)
+      → Lanes K 8 rs (λ t. own_last K y a s (q + t) 0 (lane K xs t) q (q + t - q)) → Lanes K 8 rs (λ t. line_sum K y a s (q + t) 0)
+  rows_before zs z h none begun far near = record { count = near.count; sum = λ t g. line_before K y a s (q + t) 0 K.zero (q + t) (lane K rs t) h refl refl (near.sum t g ∙ joined t g) }
     where
-      joined : (t : ℕ) → t < 8 → own_last K y a s (q + t) 0 (K.at xs t) q (q + t - q) ≡ own_last K y a s (q + t) 0 K.zero 0 (q + t)
+      joined : (t : ℕ) → t < 8 → own_last K y a s (q + t) 0 (lane K xs t) q (q + t - q) ≡ own_last K y a s (q + t) 0 K.zero 0 (q + t)
       joined t g =
           let d : q ≡ 0 + q = omega arith in
           let c : q + (q + t - q) ≡ q + t = omega arith in
@@ -155,13 +156,13 @@ module _ (K : Kind) (L : SlabLaws K) (y : System) (a : List K.Cell) (begin : K.E
       (e n (omega arith) ∙ ap begin (sym (unwritten k n (k + n) (omega arith) (omega arith) s)))
 
 -- eight elements of a vector, by parts
-pub rows-eight-is : (K : Kind) → SlabLaws K → (y : System) (a : List K.Cell) (la lb k first m q : ℕ) (last : Bool) (xs s s' : List K.Cell) → RowsReady y la lb k → first ≤ 8
-    → last ≡ not y.last → m ≡ y.b.rows → q ≡ eight_from last m k → Eight K xs (λ t. line_sum K y a s (q + t) 0) → s' ≡ put_rows K last y.b q first xs (8 - first) s
+pub rows-eight-is : (K : Kind) → SlabLaws K → (y : System) (a : List K.Cell) (la lb k first m q : ℕ) (last : Bool) (xs : List K.Elem) (s s' : List K.Cell) → RowsReady y la lb k → first ≤ 8
+    → last ≡ not y.last → m ≡ y.b.rows → q ≡ eight_from last m k → Lanes K 8 xs (λ t. line_sum K y a s (q + t) 0) → s' ≡ put_rows K last y.b q first xs (8 - first) s
     → s' ≡ walk (8 - first) (λ i. multiply_one K y a (λ x. x) (k + (first + i)) 0) s
 rows-eight-is K L y a la lb k first m q last xs s s' ready short turned counted here summed e =
     e
-    ∙ walk-cong _ _ (8 - first) (λ i g r. ap (λ (u : ℕ). K.put r (index y.b u 0) (K.at xs (in_order last 8 (first + i)))) (row i g)) s
-    ∙ rows-at-once K L y a (λ x. x) ready.ready.apart 0 (omega (arith, ready.one)) (k + first) (8 - first) (λ i. K.at xs (in_order last 8 (first + i))) s (omega (arith, ready.room))
+    ∙ walk-cong _ _ (8 - first) (λ i g r. ap (λ (u : ℕ). K.put r (index y.b u 0) (lane K xs (in_order last 8 (first + i)))) (row i g)) s
+    ∙ rows-at-once K L y a (λ x. x) ready.ready.apart 0 (omega (arith, ready.one)) (k + first) (8 - first) (λ i. lane K xs (in_order last 8 (first + i))) s (omega (arith, ready.room))
     (λ i g. summed.sum (in_order last 8 (first + i)) (in-order-lt last 8 (first + i) (omega arith)) ∙ ap (λ (u : ℕ). line_sum K y a s u 0) (row i g))
     ∙ walk-cong _ _ (8 - first) (λ i g r. ap (λ (u : ℕ). multiply_one K y a (λ x. x) u 0 r) (joined i)) s
   where

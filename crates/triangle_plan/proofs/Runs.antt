@@ -1,13 +1,14 @@
 -- A run of n terms as a loop over their numbers meets it, from `from` to before `end`: its first step, its next one, and its end; one run, and
--- eight side by side.
+-- some side by side.
 use Prim.Native.Nat.{ℕ, zero, suc, ◌+◌, ◌-◌, ◌^◌, ◌≤◌, ◌<◌}
 use mathlib.Core.Bool.{Bool}
 use mathlib.Core.List.{List}
+use lib.ListN.{length}
 use mathlib.Core.Path.{◌≡◌, ap, sym, subst, ◌∙◌}
 use native.Mathlib.Omega.{arith}
 use Rattle.number.specs.Kind.{Kind}
 use Rattle.view.specs.declared.View.{View}
-use Rattle.slabs.specs.Eight.{Eight}
+use Rattle.slabs.specs.Eight.{lane, Lanes}
 use Rattle.slabs.specs.Elem.{elem, Within}
 use Rattle.slabs.specs.Run.{elem_conj, plus_terms, Spans}
 use Rattle.slabs.proofs.RunLaws.{one_more, all, there, plus-first, plus-on, plus-done}
@@ -39,44 +40,44 @@ module _ (K : Kind) (f : ℕ → K.Elem) (x : K.Elem) (from : ℕ) where
   pub minus-done : (n p end : ℕ) (y : K.Elem) → end ≡ from + n → p ≤ end → end ≤ p → y ≡ minus_terms K x f from (p - from) → y ≡ minus_terms K x f from n
   minus-done n p end y c h g e = e ∙ ap (minus_terms K x f from) (all from n p end c h g)
 
--- eight numbers, each worked out from its own
-pub eight-then : (K : Kind) (g : K.Elem → K.Elem) (f : ℕ → K.Elem) (xs ys : List K.Cell) → Eight K xs f → Eight K ys (λ t. g (K.at xs t)) → Eight K ys (λ t. g (f t))
-eight-then K g f xs ys e d = record { count = d.count; sum = λ t l. d.sum t l ∙ ap g (e.sum t l) }
+-- numbers side by side, each worked out from its own
+pub lanes-then : {w : ℕ} (K : Kind) (g : K.Elem → K.Elem) (f : ℕ → K.Elem) (xs ys : List K.Elem) → Lanes K w xs f → Lanes K w ys (λ t. g (lane K xs t)) → Lanes K w ys (λ t. g (f t))
+lanes-then K g f xs ys e d = record { count = d.count; sum = λ t l. d.sum t l ∙ ap g (e.sum t l) }
 
--- ---- eight of them: row q of one view by the columns of another from l on, each added to its number of xs or taken off it
+-- ---- w of them: row q of one view by the columns of another from l on, each added to its number of xs or taken off it
 
-module _ (K : Kind) (conjugated : Bool) (a : List K.Cell) (va : View) (b : List K.Cell) (vb : View) (q l from : ℕ) (xs : List K.Cell) where
+module _ (K : Kind) (conjugated : Bool) (a : List K.Cell) (va : View) (b : List K.Cell) (vb : View) (q l from : ℕ) (w : ℕ) (xs : List K.Elem) where
   abbrev term : ℕ → ℕ → K.Elem
   term t p = K.mul (elem_conj K conjugated a va q p) (elem K b vb p (l + t))
 
-  abbrev less_eight : ℕ → ℕ → K.Elem
-  less_eight n t = minus_terms K (K.at xs t) (term t) from n
+  abbrev less_lanes : ℕ → ℕ → K.Elem
+  less_lanes n t = minus_terms K (lane K xs t) (term t) from n
 
-  abbrev more_eight : ℕ → ℕ → K.Elem
-  more_eight n t = plus_terms K (K.at xs t) (term t) from n
+  abbrev more_lanes : ℕ → ℕ → K.Elem
+  more_lanes n t = plus_terms K (lane K xs t) (term t) from n
 
-  pub less-first : K.count xs ≡ 8 → Eight K xs (less_eight (from - from))
-  less-first many = record { count = many; sum = λ t g. minus-first K (term t) (K.at xs t) from }
+  pub less-first : length xs ≡ w → Lanes K w xs (less_lanes (from - from))
+  less-first many = record { count = many; sum = λ t g. minus-first K (term t) (lane K xs t) from }
 
-  pub more-first : K.count xs ≡ 8 → Eight K xs (more_eight (from - from))
-  more-first many = record { count = many; sum = λ t g. plus-first K (term t) (K.at xs t) from }
+  pub more-first : length xs ≡ w → Lanes K w xs (more_lanes (from - from))
+  more-first many = record { count = many; sum = λ t g. plus-first K (term t) (lane K xs t) from }
 
-  module _ (p : ℕ) (y w : List K.Cell) (z : K.Elem) (h : from ≤ p) (read : z ≡ elem_conj K conjugated a va q p) where
+  module _ (p : ℕ) (y z : List K.Elem) (c : K.Elem) (h : from ≤ p) (read : c ≡ elem_conj K conjugated a va q p) where
     abbrev by : ℕ → K.Elem
-    by t = K.mul z (elem K b vb p (l + t))
+    by t = K.mul c (elem K b vb p (l + t))
 
     is-term : (t : ℕ) → by t ≡ term t p
     is-term t = ap (λ (u : K.Elem). K.mul u (elem K b vb p (l + t))) read
 
-    pub less-on : Eight K y (less_eight (p - from)) → Eight K w (λ t. K.sub (K.at y t) (K.mul z (elem K b vb p (l + t)))) → Eight K w (less_eight (p + 1 - from))
-    less-on e d = record { count = d.count; sum = λ t g. minus-on K (term t) (K.at xs t) from p (K.at y t) (by t) (K.at w t) h (e.sum t g) (is-term t) (d.sum t g) }
+    pub less-on : Lanes K w y (less_lanes (p - from)) → Lanes K w z (λ t. K.sub (lane K y t) (K.mul c (elem K b vb p (l + t)))) → Lanes K w z (less_lanes (p + 1 - from))
+    less-on e d = record { count = d.count; sum = λ t g. minus-on K (term t) (lane K xs t) from p (lane K y t) (by t) (lane K z t) h (e.sum t g) (is-term t) (d.sum t g) }
 
-    pub more-on : Eight K y (more_eight (p - from)) → Eight K w (λ t. K.add (K.at y t) (K.mul z (elem K b vb p (l + t)))) → Eight K w (more_eight (p + 1 - from))
-    more-on e d = record { count = d.count; sum = λ t g. plus-on K (term t) (K.at xs t) from p (K.at y t) (by t) (K.at w t) h (e.sum t g) (is-term t) (d.sum t g) }
+    pub more-on : Lanes K w y (more_lanes (p - from)) → Lanes K w z (λ t. K.add (lane K y t) (K.mul c (elem K b vb p (l + t)))) → Lanes K w z (more_lanes (p + 1 - from))
+    more-on e d = record { count = d.count; sum = λ t g. plus-on K (term t) (lane K xs t) from p (lane K y t) (by t) (lane K z t) h (e.sum t g) (is-term t) (d.sum t g) }
 
-  module _ (n p end : ℕ) (y : List K.Cell) (counted : end ≡ from + n) (h : p ≤ end) (g : end ≤ p) where
-    pub less_done : Eight K y (less_eight (p - from)) → Eight K y (less_eight n)
-    less_done e = record { count = e.count; sum = λ t k. minus-done K (term t) (K.at xs t) from n p end (K.at y t) counted h g (e.sum t k) }
+  module _ (n p end : ℕ) (y : List K.Elem) (counted : end ≡ from + n) (h : p ≤ end) (g : end ≤ p) where
+    pub less_done : Lanes K w y (less_lanes (p - from)) → Lanes K w y (less_lanes n)
+    less_done e = record { count = e.count; sum = λ t k. minus-done K (term t) (lane K xs t) from n p end (lane K y t) counted h g (e.sum t k) }
 
-    pub more-done : Eight K y (more_eight (p - from)) → Eight K y (more_eight n)
-    more-done e = record { count = e.count; sum = λ t k. plus-done K (term t) (K.at xs t) from n p end (K.at y t) counted h g (e.sum t k) }
+    pub more-done : Lanes K w y (more_lanes (p - from)) → Lanes K w y (more_lanes n)
+    more-done e = record { count = e.count; sum = λ t k. plus-done K (term t) (lane K xs t) from n p end (lane K y t) counted h g (e.sum t k) }

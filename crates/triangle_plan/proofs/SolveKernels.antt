@@ -4,6 +4,8 @@ use mathlib.Core.Bool.{Bool, true, false}
 use mathlib.Core.List.{List}
 use mathlib.Core.Path.{◌≡◌, refl, sym, subst, ◌∙◌}
 use lib.Dec.{T}
+use Rattle.std.specs.Prelude.{Option}
+use Rattle.std.specs.Bool.{then_some}
 use Rattle.number.specs.Kind.{Kind}
 use Rattle.view.specs.declared.View.{View}
 use Rattle.view.specs.declared.Answer.{Answer}
@@ -65,15 +67,15 @@ module _ (K : Kind) (uplo : UpLo) (t : Trans) (diag : Diag) (a x : Lent K) (r : 
 -- ---- trsm
 
 -- the solve of a side
-pub sided-gives : (K : Kind) (side : Side) (uplo : UpLo) (t : Trans) (diag : Diag) (alpha : K.Elem) (a : Matrix K) (v : View) (times : Bool) (s s' after : List K.Cell) (answer : Answer)
-    → s' ≡ scaled_right K side alpha v s → times ≡ is_left side → Gives K (substituted K side uplo t diag (times_if K times alpha) a v s') answer after
+pub sided-gives : (K : Kind) (side : Side) (uplo : UpLo) (t : Trans) (diag : Diag) (alpha : K.Elem) (a : Matrix K) (v : View) (begin : Option K.Elem) (s s' after : List K.Cell) (answer : Answer)
+    → s' ≡ scaled_right K side alpha v s → begin ≡ then_some (is_left side) alpha → Gives K (substituted K side uplo t diag (times_if K begin) a v s') answer after
     → Gives K (sided_solve K side uplo t diag alpha a v s) answer after
-sided-gives K Left uplo t diag alpha a v times s s' after answer scaled told w =
+sided-gives K Left uplo t diag alpha a v begin s s' after answer scaled told w =
     subst (λ (y : List K.Cell). Gives K (substituted K Left uplo t diag (K.mul alpha) a v y) answer after) scaled
-    (subst (λ (b : Bool). Gives K (substituted K Left uplo t diag (times_if K b alpha) a v s') answer after) told w)
-sided-gives K Right uplo t diag alpha a v times s s' after answer scaled told w =
+    (subst (λ (b : Option K.Elem). Gives K (substituted K Left uplo t diag (times_if K b) a v s') answer after) told w)
+sided-gives K Right uplo t diag alpha a v begin s s' after answer scaled told w =
     subst (λ (y : List K.Cell). Gives K (substituted K Right uplo t diag (λ b. b) a v y) answer after) scaled
-    (subst (λ (b : Bool). Gives K (substituted K Right uplo t diag (times_if K b alpha) a v s') answer after) told w)
+    (subst (λ (b : Option K.Elem). Gives K (substituted K Right uplo t diag (times_if K b) a v s') answer after) told w)
 
 module _ (K : Kind) (side : Side) (uplo : UpLo) (t : Trans) (diag : Diag) (alpha : K.Elem) (a b : Lent K) (r : Answer) (flag : Bool)
     (answered : r ≡ trsm_check side a.view (K.count a.slab) b.view (K.count b.slab)) (told : flag ≡ is_done r) where

@@ -25,6 +25,12 @@ pub record ReadyAt (y : System) (la lb q l : ℕ) : Type 0 where
   pub unknown : q < y.b.rows
   pub line : l < y.b.cols
 
+-- the same of w lines, from line l on
+pub record LinesReady (y : System) (la lb q l w : ℕ) : Type 0 where
+  pub ready : Ready y la lb
+  pub unknown : q < y.b.rows
+  pub lines : l + w ≤ y.b.cols
+
 -- the eight unknowns from q on, or those that come after q others, of one line
 pub record RowsReady (y : System) (la lb q : ℕ) : Type 0 where
   pub ready : Ready y la lb

@@ -1,5 +1,5 @@
 -- A triangular system or product, chosen before its loops: which views show the coefficients and the unknowns.
-use Rattle.std.specs.Prelude.{ℕ, Bool, true, false, List}
+use Rattle.std.specs.Prelude.{ℕ, Bool, true, false, List, Option, Some, None}
 use Rattle.number.specs.Kind.{Kind}
 use Rattle.view.specs.declared.View.{View}
 use Rattle.view.specs.declared.Trans.{Trans}
@@ -33,9 +33,9 @@ abbrev pub coefficient : (K : Kind) → System → List K.Cell → ℕ → ℕ �
 coefficient K y a q p = elem_conj K y.conjugated a y.a q p
 
 -- times alpha, or as it is
-abbrev pub times_if : (K : Kind) → Bool → K.Elem → K.Elem → K.Elem
-times_if K true alpha x = K.mul alpha x
-times_if K false alpha x = x
+abbrev pub times_if : (K : Kind) → Option K.Elem → K.Elem → K.Elem
+times_if K (Some alpha) x = K.mul alpha x
+times_if K None x = x
 
 -- the left side multiplies by alpha where it solves, the right side all of B before
 abbrev pub is_left : Side → Bool

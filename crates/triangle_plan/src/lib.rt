@@ -8,9 +8,9 @@ ghost use Rattle.blas.specs.Triangular as triangular;
 ghost use Rattle.blas.specs.Substitution as substitution;
 ghost use Rattle.triangle_plan.specs.Triangles.{is_left, lines_view, system_of};
 ghost use Rattle.triangle_plan.specs.Solve as solve;
-ghost use Rattle.triangle_plan.specs.Eights.{eight_from};
+ghost use Rattle.triangle_plan.specs.Lanes.{eight_from};
 
-use view::{Answer, Diag, Side, Trans, UpLo, View, cols, conjugates, op_view, rows, transposed};
+use view::{Answer, Diag, Side, Trans, UpLo, View};
 
 // What a triangular routine works on. Coefficient (q, p) of its equations is element (q, p) of `a`, conjugated or not; unknown p of line l is
 // element (p, l) of `b`. The last unknown is solved first, or the first one is.
@@ -24,33 +24,13 @@ pub struct System {
     pub b: View,
 }
 
-// Whether op(A) is upper triangular, of a Lower and of an Upper A, and of either.
-fn lower_turned(t: Trans) -> bool
-    ensures { result ≡ triangular.op_upper UpLo.Lower t }
-{
-    match t {
-        Trans::NoTrans => false,
-        Trans::Trans => true,
-        Trans::ConjTrans => true,
-    }
-}
-
-fn upper_kept(t: Trans) -> bool
-    ensures { result ≡ triangular.op_upper UpLo.Upper t }
-{
-    match t {
-        Trans::NoTrans => true,
-        Trans::Trans => false,
-        Trans::ConjTrans => false,
-    }
-}
-
+// Whether op(A) is upper triangular.
 fn op_upper(uplo: UpLo, t: Trans) -> bool
     ensures { result ≡ triangular.op_upper uplo t }
 {
     match uplo {
-        UpLo::Upper => upper_kept(t),
-        UpLo::Lower => lower_turned(t),
+        UpLo::Upper => matches!(t, Trans::NoTrans),
+        UpLo::Lower => !matches!(t, Trans::NoTrans),
     }
 }
 
@@ -67,10 +47,7 @@ fn last_first(side: Side, uplo: UpLo, t: Trans) -> bool
 pub fn is_left(side: Side) -> bool
     ensures { result ≡ is_left side }
 {
-    match side {
-        Side::Left => true,
-        Side::Right => false,
-    }
+    matches!(side, Side::Left)
 }
 
 // Of m unknowns the one that comes after k others.
@@ -103,7 +80,7 @@ fn lines_view(side: Side, v: View) -> View
 {
     match side {
         Side::Left => v,
-        Side::Right => transposed(v),
+        Side::Right => v.transposed(),
     }
 }
 
@@ -111,29 +88,22 @@ fn lines_view(side: Side, v: View) -> View
 pub fn system_of(side: Side, uplo: UpLo, t: Trans, diag: Diag, a: View, b: View) -> System
     ensures { result ≡ system_of side uplo t diag a b }
 {
-    let conjugated = conjugates(t);
-    let last = last_first(side, uplo, t);
-    let va = lines_view(side, op_view(t, a));
-    let vb = lines_view(side, b);
     System {
         side,
         diag,
-        conjugated,
-        last,
-        a: va,
-        b: vb,
+        conjugated: t.conjugates(),
+        last: last_first(side, uplo, t),
+        a: lines_view(side, a.op(t)),
+        b: lines_view(side, b),
     }
 }
 
 // Whether a solve stops where k unknowns come before the first zero pivot: there is a line, and not all unknowns do.
+#[tactic(auto, unfolding(crate::specs::Solve::stops))]
 pub fn stops(sys: System, k: usize) -> bool
     ensures { result ≡ solve.stops sys k }
 {
-    if 0 < cols(sys.b) {
-        k < rows(sys.b)
-    } else {
-        false
-    }
+    0 < sys.b.cols && k < sys.b.rows
 }
 
 // How many of n lines are solved: all, but the first alone where a left solve stops.

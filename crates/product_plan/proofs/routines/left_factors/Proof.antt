@@ -1,7 +1,0 @@
--- Either way is the definition's (Plans: left_factors): A transposed and conjugated where mirrored, else as it is.
-use Rattle.product_plan.proofs.Words.{rules}
-use Rattle.product_plan.proofs.routines.left_factors.Statement.{statement}
-use Rattle.product_plan.proofs.routines.left_factors.Tie as tie
-
-pub left_factors_spec : {M : Type 1} → statement M
-left_factors_spec = tie.close (tie.spec (λ c κs. search rules) (λ c. rw (c.if-mirrored.true, c.transposed.ensures)) (λ c. rw c.if-mirrored.false))

@@ -1,2 +1,0 @@
--- The lemma that the functions' proofs share.
-pub mod NotNan
