@@ -1,4 +1,3 @@
 -- Laws that several proofs of the crate cite: what an answer gives; and what the definition of a read means.
 mod Answers
 mod Meaning
-mod Words

@@ -32,7 +32,7 @@ module _ {A : Type 0} (K : Kind) (number : K.Elem → A) (refused : Answer → A
 
   pub shown-found : Accepted v (K.count s) → r < v.rows → c < v.cols → read_at K number refused s v r c ≡ number (elem K s v r c)
   shown-found h p q =
-      by_answer Done (sym (in-shape v (K.count s) r c Done true (sym (accepted-done v (K.count s) h)) refl refl true (has v r c v.rows refl v.cols refl p q)))
+      by_answer Done (sym (in-shape v (K.count s) r c Done true (sym (accepted-done v (K.count s) h)) refl refl true (has v r c p q)))
 
   pub absent-refused : Accepted v (K.count s) → in_shape v r c ≡ false → read_at K number refused s v r c ≡ refused OutOfBounds
   absent-refused h e =

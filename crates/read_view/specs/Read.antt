@@ -1,14 +1,12 @@
 -- What reading element (r, c) of a view finds, over any number kind and for all arguments: the element, or the refusal.
-use Rattle.std.specs.Prelude.{Bool, not, cond, ◌&&◌, List, [], ◌∷◌, ℕ, ltb}
-use Rattle.number.specs.Kind.{Kind, real64, complex}
+use Rattle.std.specs.Prelude.{Bool, not, cond, ◌&&◌, List, [], ◌∷◌, ℕ, ltb, Result, Ok, Err}
+use Rattle.number.specs.Kind.{Kind}
 use Rattle.view.specs.declared.View.{View}
 use Rattle.view.specs.declared.Answer.{Answer}
 use Rattle.view.specs.declared.Answer.TheVariants.{Done, OutOfBounds}
 use Rattle.view.specs.Judge.{answer_number, is_done, refuse}
 use Rattle.view.specs.Checks.{read_check}
 use Rattle.slabs.specs.Elem.{elem}
-use Rattle.read_view.specs.declared.Found.{Found}
-use Rattle.read_view.specs.declared.FoundComplex.{FoundComplex}
 
 -- the view has an element (r, c)
 abbrev pub in_shape : View → ℕ → ℕ → Bool
@@ -41,10 +39,6 @@ abbrev pub read_outcome : (K : Kind) → List K.Cell → View → ℕ → ℕ �
 read_outcome K = read_at K (found_element K) (refused_read K)
 
 -- what the code returns, case by case
-abbrev pub found_outcome : Found → ReadOutcome real64
-found_outcome (Found.Number x) = found_element real64 x
-found_outcome (Found.Refused a) = refused_read real64 a
-
-abbrev pub found_complex_outcome : FoundComplex → ReadOutcome complex
-found_complex_outcome (FoundComplex.Number x) = found_element complex x
-found_complex_outcome (FoundComplex.Refused a) = refused_read complex a
+abbrev pub found_outcome : (K : Kind) → Result K.Elem Answer → ReadOutcome K
+found_outcome K (Ok x) = found_element K x
+found_outcome K (Err a) = refused_read K a
