@@ -1,7 +1,7 @@
 // The cells of a record: numbers by their bits. Its slabs, its scalars, and what a call has to leave of them.
 ghost use Rattle.std.specs.Prelude.{◌≡◌, ◌*◌, ◌<◌, ◌^◌};
-ghost use prog.Memory.{size};
-ghost use denote.Param.{layout};
+ghost use Rattle.std.specs.Mem.{type_size};
+ghost use Rattle.std.proofs.Common.{rules};
 ghost use Rattle.recorded_calls.specs.Little.{double, word};
 
 use crate::record;
@@ -14,9 +14,14 @@ use view::Answer;
 pub trait Cell: Patterned + Default {
     // The bits of cell i of the cells that begin at `at`, of which there are fewer than 4096.
     fn bits_at(bytes: &[u8], at: usize, i: usize) -> Self::Pattern;
+
+    // A slab of them fits the memory.
+    ghost fit: { 144 * type_size Self.row < 2 ^ 63 };
 }
 
 impl Cell for f64 {
+    ghost fit = { Prim.search rules };
+
     fn bits_at(bytes: &[u8], at: usize, i: usize) -> u64 {
         if i < 4096 {
             double_at(bytes, at, 8 * i)
@@ -27,6 +32,8 @@ impl Cell for f64 {
 }
 
 impl Cell for f32 {
+    ghost fit = { Prim.search rules };
+
     fn bits_at(bytes: &[u8], at: usize, i: usize) -> u32 {
         if i < 4096 {
             word_at(bytes, at, 4 * i) as u32
@@ -109,10 +116,9 @@ impl Record<'_> {
     }
 
     // Whether a call, lent the first two slabs and the target's, gives the record's answer and the target's slab after the
-    // call, and leaves the others. It gives none where the list has no such routine. A slab of cells has to fit in memory.
+    // call, and leaves the others. It gives none where the list has no such routine.
     pub fn agrees<T: Cell, F: FnOnce(&[T], &[T], &mut [T]) -> Option<Answer>>(self, call: F) -> bool
-        requires callable { F.IsAlwaysCallable call }
-        requires small { 144 * size (layout T.row) < 2 ^ 63 }
+        requires { F.IsAlwaysCallable call }
     {
         let mut s = [T::default(); SLAB];
         let mut t = [T::default(); SLAB];
