@@ -117,7 +117,11 @@ impl Record<'_> {
 
     // Whether a call, lent the first two slabs and the target's, gives the record's answer and the target's slab after the
     // call, and leaves the others. It gives none where the list has no such routine.
-    pub fn agrees<T: Cell, F: FnOnce(&[T], &[T], &mut [T]) -> Option<Answer>>(self, call: F) -> bool
+    pub fn agrees<T: Cell, F: FnOnce(&[T], &[T], &mut [T]) -> Option<Answer>>(
+        self,
+        target: u8,
+        call: F,
+    ) -> bool
         requires { F.IsAlwaysCallable call }
     {
         let mut s = [T::default(); SLAB];
@@ -125,7 +129,7 @@ impl Record<'_> {
         let mut u = [T::default(); SLAB];
         let a = self.slab(0, &mut s);
         let b = self.slab(1, &mut t);
-        let c = self.slab(self.target(), &mut u);
+        let c = self.slab(target, &mut u);
         let answer = call(a, b, c);
         self.has_answer(answer)
             && self.kept(0, a)
