@@ -92,8 +92,8 @@ impl<'a, N: Number, W: Weigh<N>> Paired<'a, N, W> {
         }
     }
 
-    // Row i of a target of at least L columns.
-    fn row<const L: usize>(&self, c: &mut [N::Cell], i: usize)
+    // Row i of a target of at least L columns, block after block.
+    fn wide_row<const L: usize>(&self, c: &mut [N::Cell], i: usize)
         requires square { SquareWithin self.now.plan.target (N.numbers.count c.old) }
         requires row { i < self.now.plan.target.rows }
         requires some { 0 < L }
@@ -110,28 +110,31 @@ impl<'a, N: Number, W: Weigh<N>> Paired<'a, N, W> {
         }
     }
 
-    // The whole of such a target, or of one with no row.
-    fn rows<const L: usize>(&self, c: &mut [N::Cell])
+    // Row i of any target, column after column.
+    fn narrow_row(&self, c: &mut [N::Cell], i: usize)
         requires square { SquareWithin self.now.plan.target (N.numbers.count c.old) }
-        requires some { 0 < L }
-        requires wide { 0 < self.now.plan.target.rows → L ≤ self.now.plan.target.cols }
-        ensures { c.new ≡ update (kind N.numbers) self.now.plan.target (in_triangle self.now.plan.uplo) (paired_change (kind N.numbers) self.now.plan self.now.a.now self.now.b.now (W.weights self.now.weigh) (scale_by N.numbers N.multipliers self.now.beta)) c.old }
+        requires row { i < self.now.plan.target.rows }
+        ensures { c.new ≡ update_row (kind N.numbers) self.now.plan.target (in_triangle self.now.plan.uplo) (paired_change (kind N.numbers) self.now.plan self.now.a.now self.now.b.now (W.weights self.now.weigh) (scale_by N.numbers N.multipliers self.now.beta)) i self.now.plan.target.cols c.old }
     {
-        for i in 0..self.plan.target.rows {
-            self.row::<L>(c, i);
+        let end = self.plan.uplo.end_col(i, self.plan.target.cols);
+        for j in self.plan.uplo.first_col(i)..end {
+            let sums: [N; 1] = self.pair_sums(i, j);
+            self.settle(sums[0], c, i, j);
         }
     }
 
-    // The whole target, L columns at a time, or one by one where it has fewer.
+    // The whole target, its rows L columns at a time where they are so many.
     pub(crate) fn update<const L: usize>(&self, c: &mut [N::Cell])
         requires square { SquareWithin self.now.plan.target (N.numbers.count c.old) }
         requires some { 0 < L }
         ensures { c.new ≡ update (kind N.numbers) self.now.plan.target (in_triangle self.now.plan.uplo) (paired_change (kind N.numbers) self.now.plan self.now.a.now self.now.b.now (W.weights self.now.weigh) (scale_by N.numbers N.multipliers self.now.beta)) c.old }
     {
-        if L <= self.plan.target.cols {
-            self.rows::<L>(c);
-        } else {
-            self.rows::<1>(c);
+        for i in 0..self.plan.target.rows {
+            if L <= self.plan.target.cols {
+                self.wide_row::<L>(c, i);
+            } else {
+                self.narrow_row(c, i);
+            }
         }
     }
 }

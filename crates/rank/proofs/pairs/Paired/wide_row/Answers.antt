@@ -3,7 +3,7 @@ use Rattle.std.proofs.Common.{◌≡◌, ◌+◌, arith, refl}
 use Rattle.number.specs.Kind.{kind}
 use Rattle.slabs.proofs.LoopLaws.{span-start, span-on}
 use Rattle.rank_plan.proofs.Rows.{end_le, row_done, row_lt, begins}
-use Rattle.rank.proofs.pairs.Paired.row.Goals as goal
+use Rattle.rank.proofs.pairs.Paired.wide_row.Goals as goal
 
 pub loop-j-init : goal.loop-j-init
 loop-j-init g c = (
