@@ -32,6 +32,7 @@ pub(crate) struct Paired<'a, N: Number, W: Weigh<N>> {
 
 impl<'a, N: Number, W: Weigh<N>> Paired<'a, N, W> {
     // Each of L sums, those of row i from column j on, with the two products at p added one after the other.
+    #[inline(always)]
     fn add_pairs<const L: usize>(&self, p: usize, i: usize, j: usize, sums: [N; L]) -> [N; L]
         requires row { i < self.now.plan.target.rows }
         requires cols { j + L ≤ self.now.plan.target.cols }
@@ -50,6 +51,7 @@ impl<'a, N: Number, W: Weigh<N>> Paired<'a, N, W> {
     }
 
     // The sums of all pairs of products, for the elements of row i from column j on.
+    #[inline(always)]
     fn pair_sums<const L: usize>(&self, i: usize, j: usize) -> [N; L]
         requires row { i < self.now.plan.target.rows }
         requires cols { j + L ≤ self.now.plan.target.cols }
@@ -63,6 +65,7 @@ impl<'a, N: Number, W: Weigh<N>> Paired<'a, N, W> {
     }
 
     // Element (i, j) of the target becomes what beta makes of it, plus the sum of its pairs, weighed.
+    #[inline(always)]
     fn settle(&self, sum: N, c: &mut [N::Cell], i: usize, j: usize)
         requires { Within self.now.plan.target (N.numbers.count c.old) i j }
         ensures { c.new ≡ replaced (kind N.numbers) self.now.plan.target i j (λ old. N.numbers.add (scale_by N.numbers N.multipliers self.now.beta old) ((W.weights self.now.weigh).sum sum)) c.old }
@@ -73,6 +76,7 @@ impl<'a, N: Number, W: Weigh<N>> Paired<'a, N, W> {
     }
 
     // Columns first to before end of row i of the target, which are among the L columns from `from` on.
+    #[inline(always)]
     fn block<const L: usize>(
         &self,
         c: &mut [N::Cell],
@@ -93,6 +97,7 @@ impl<'a, N: Number, W: Weigh<N>> Paired<'a, N, W> {
     }
 
     // Row i of a target of at least L columns, block after block.
+    #[inline(always)]
     fn wide_row<const L: usize>(&self, c: &mut [N::Cell], i: usize)
         requires square { SquareWithin self.now.plan.target (N.numbers.count c.old) }
         requires row { i < self.now.plan.target.rows }
@@ -124,6 +129,7 @@ impl<'a, N: Number, W: Weigh<N>> Paired<'a, N, W> {
     }
 
     // The whole target, its rows L columns at a time where they are so many.
+    #[inline(always)]
     pub(crate) fn update<const L: usize>(&self, c: &mut [N::Cell])
         requires square { SquareWithin self.now.plan.target (N.numbers.count c.old) }
         requires some { 0 < L }
