@@ -8,12 +8,8 @@ ghost use Rattle.capi_flags.specs.Interface.{complex_of, gemm_c, gemv_c, hemm_c,
 ghost use Rattle.view.specs.Place.{view_of};
 
 use call_check::{judge2, judge3};
-use capi_flags::{
-    diag_of, is_side_uplo, is_side_uplo_trans_diag, is_trans, is_trans_trans, is_uplo,
-    is_uplo_trans, is_uplo_trans_diag, side_of, trans_of, uplo_of,
-};
-use number::Complex;
-use view::{number, view_of};
+use kinds::Complex;
+use view::{Diag, Side, Trans, UpLo, View};
 
 // y ← alpha op(A) x + beta y
 #[unsafe(no_mangle)]
@@ -44,30 +40,14 @@ pub extern "C" fn zb_zgemv(
 ) -> u8
     ensures { Returns complex (gemv_c complex trans (complex_of alphare alphaim) (lent complex a.now (view_of astart arows acols ars acs)) (lent complex x.now (view_of xstart xrows xcols xrs xcs)) (complex_of betare betaim) (lent complex y.old (view_of ystart yrows ycols yrs ycs))) result y.new }
 {
-    let va = view_of(astart, arows, acols, ars, acs);
-    let vx = view_of(xstart, xrows, xcols, xrs, xcs);
-    let vy = view_of(ystart, yrows, ycols, yrs, ycs);
-    if is_trans(trans) {
-        number(product_complex::gemv::gemv(
-            trans_of(trans),
-            Complex {
-                re: alphare,
-                im: alphaim,
-            },
-            a,
-            va,
-            x,
-            vx,
-            Complex {
-                re: betare,
-                im: betaim,
-            },
-            y,
-            vy,
-        ))
-    } else {
-        number(judge3(va, a.len() / 2, vx, x.len() / 2, vy, y.len() / 2, false))
-    }
+    let va = View::new(astart, arows, acols, ars, acs);
+    let vx = View::new(xstart, xrows, xcols, xrs, xcs);
+    let vy = View::new(ystart, yrows, ycols, yrs, ycs);
+    let answer = match Trans::try_from(trans) {
+        Ok(trans) => product_complex::gemv::gemv(trans, Complex { re: alphare, im: alphaim }, a, va, x, vx, Complex { re: betare, im: betaim }, y, vy),
+        Err(_) => judge3(va, a.len() / 2, vx, x.len() / 2, vy, y.len() / 2, false),
+    };
+    u8::from(answer)
 }
 
 // y ← alpha A x + beta y, A Hermitian
@@ -99,30 +79,14 @@ pub extern "C" fn zb_zhemv(
 ) -> u8
     ensures { Returns complex (hemv_c complex uplo (complex_of alphare alphaim) (lent complex a.now (view_of astart arows acols ars acs)) (lent complex x.now (view_of xstart xrows xcols xrs xcs)) (complex_of betare betaim) (lent complex y.old (view_of ystart yrows ycols yrs ycs))) result y.new }
 {
-    let va = view_of(astart, arows, acols, ars, acs);
-    let vx = view_of(xstart, xrows, xcols, xrs, xcs);
-    let vy = view_of(ystart, yrows, ycols, yrs, ycs);
-    if is_uplo(uplo) {
-        number(product_complex::hemv::hemv(
-            uplo_of(uplo),
-            Complex {
-                re: alphare,
-                im: alphaim,
-            },
-            a,
-            va,
-            x,
-            vx,
-            Complex {
-                re: betare,
-                im: betaim,
-            },
-            y,
-            vy,
-        ))
-    } else {
-        number(judge3(va, a.len() / 2, vx, x.len() / 2, vy, y.len() / 2, false))
-    }
+    let va = View::new(astart, arows, acols, ars, acs);
+    let vx = View::new(xstart, xrows, xcols, xrs, xcs);
+    let vy = View::new(ystart, yrows, ycols, yrs, ycs);
+    let answer = match UpLo::try_from(uplo) {
+        Ok(uplo) => product_complex::hemv::hemv(uplo, Complex { re: alphare, im: alphaim }, a, va, x, vx, Complex { re: betare, im: betaim }, y, vy),
+        Err(_) => judge3(va, a.len() / 2, vx, x.len() / 2, vy, y.len() / 2, false),
+    };
+    u8::from(answer)
 }
 
 // C ← alpha op(A) op(B) + beta C
@@ -155,31 +119,15 @@ pub extern "C" fn zb_zgemm(
 ) -> u8
     ensures { Returns complex (gemm_c complex ta tb (complex_of alphare alphaim) (lent complex a.now (view_of astart arows acols ars acs)) (lent complex b.now (view_of bstart brows bcols brs bcs)) (complex_of betare betaim) (lent complex c.old (view_of cstart crows ccols crs ccs))) result c.new }
 {
-    let va = view_of(astart, arows, acols, ars, acs);
-    let vb = view_of(bstart, brows, bcols, brs, bcs);
-    let vc = view_of(cstart, crows, ccols, crs, ccs);
-    if is_trans_trans(ta, tb) {
-        number(product_complex::gemm::gemm(
-            trans_of(ta),
-            trans_of(tb),
-            Complex {
-                re: alphare,
-                im: alphaim,
-            },
-            a,
-            va,
-            b,
-            vb,
-            Complex {
-                re: betare,
-                im: betaim,
-            },
-            c,
-            vc,
-        ))
-    } else {
-        number(judge3(va, a.len() / 2, vb, b.len() / 2, vc, c.len() / 2, false))
-    }
+    let va = View::new(astart, arows, acols, ars, acs);
+    let vb = View::new(bstart, brows, bcols, brs, bcs);
+    let vc = View::new(cstart, crows, ccols, crs, ccs);
+    let flags = (Trans::try_from(ta), Trans::try_from(tb));
+    let answer = match flags {
+        (Ok(ta), Ok(tb)) => product_complex::gemm::gemm(ta, tb, Complex { re: alphare, im: alphaim }, a, va, b, vb, Complex { re: betare, im: betaim }, c, vc),
+        _ => judge3(va, a.len() / 2, vb, b.len() / 2, vc, c.len() / 2, false),
+    };
+    u8::from(answer)
 }
 
 // C ← alpha A B + beta C or alpha B A + beta C, A symmetric
@@ -212,31 +160,15 @@ pub extern "C" fn zb_zsymm(
 ) -> u8
     ensures { Returns complex (symm_c complex side uplo (complex_of alphare alphaim) (lent complex a.now (view_of astart arows acols ars acs)) (lent complex b.now (view_of bstart brows bcols brs bcs)) (complex_of betare betaim) (lent complex c.old (view_of cstart crows ccols crs ccs))) result c.new }
 {
-    let va = view_of(astart, arows, acols, ars, acs);
-    let vb = view_of(bstart, brows, bcols, brs, bcs);
-    let vc = view_of(cstart, crows, ccols, crs, ccs);
-    if is_side_uplo(side, uplo) {
-        number(product_complex::symm::symm(
-            side_of(side),
-            uplo_of(uplo),
-            Complex {
-                re: alphare,
-                im: alphaim,
-            },
-            a,
-            va,
-            b,
-            vb,
-            Complex {
-                re: betare,
-                im: betaim,
-            },
-            c,
-            vc,
-        ))
-    } else {
-        number(judge3(va, a.len() / 2, vb, b.len() / 2, vc, c.len() / 2, false))
-    }
+    let va = View::new(astart, arows, acols, ars, acs);
+    let vb = View::new(bstart, brows, bcols, brs, bcs);
+    let vc = View::new(cstart, crows, ccols, crs, ccs);
+    let flags = (Side::try_from(side), UpLo::try_from(uplo));
+    let answer = match flags {
+        (Ok(side), Ok(uplo)) => product_complex::symm::symm(side, uplo, Complex { re: alphare, im: alphaim }, a, va, b, vb, Complex { re: betare, im: betaim }, c, vc),
+        _ => judge3(va, a.len() / 2, vb, b.len() / 2, vc, c.len() / 2, false),
+    };
+    u8::from(answer)
 }
 
 // C ← alpha A B + beta C or alpha B A + beta C, A Hermitian
@@ -269,31 +201,15 @@ pub extern "C" fn zb_zhemm(
 ) -> u8
     ensures { Returns complex (hemm_c complex side uplo (complex_of alphare alphaim) (lent complex a.now (view_of astart arows acols ars acs)) (lent complex b.now (view_of bstart brows bcols brs bcs)) (complex_of betare betaim) (lent complex c.old (view_of cstart crows ccols crs ccs))) result c.new }
 {
-    let va = view_of(astart, arows, acols, ars, acs);
-    let vb = view_of(bstart, brows, bcols, brs, bcs);
-    let vc = view_of(cstart, crows, ccols, crs, ccs);
-    if is_side_uplo(side, uplo) {
-        number(product_complex::hemm::hemm(
-            side_of(side),
-            uplo_of(uplo),
-            Complex {
-                re: alphare,
-                im: alphaim,
-            },
-            a,
-            va,
-            b,
-            vb,
-            Complex {
-                re: betare,
-                im: betaim,
-            },
-            c,
-            vc,
-        ))
-    } else {
-        number(judge3(va, a.len() / 2, vb, b.len() / 2, vc, c.len() / 2, false))
-    }
+    let va = View::new(astart, arows, acols, ars, acs);
+    let vb = View::new(bstart, brows, bcols, brs, bcs);
+    let vc = View::new(cstart, crows, ccols, crs, ccs);
+    let flags = (Side::try_from(side), UpLo::try_from(uplo));
+    let answer = match flags {
+        (Ok(side), Ok(uplo)) => product_complex::hemm::hemm(side, uplo, Complex { re: alphare, im: alphaim }, a, va, b, vb, Complex { re: betare, im: betaim }, c, vc),
+        _ => judge3(va, a.len() / 2, vb, b.len() / 2, vc, c.len() / 2, false),
+    };
+    u8::from(answer)
 }
 
 // C ← alpha A Aᵀ + beta C or alpha Aᵀ A + beta C, in the named triangle
@@ -320,28 +236,14 @@ pub extern "C" fn zb_zsyrk(
 ) -> u8
     ensures { Returns complex (syrk_c complex uplo trans (complex_of alphare alphaim) (lent complex a.now (view_of astart arows acols ars acs)) (complex_of betare betaim) (lent complex c.old (view_of cstart crows ccols crs ccs))) result c.new }
 {
-    let va = view_of(astart, arows, acols, ars, acs);
-    let vc = view_of(cstart, crows, ccols, crs, ccs);
-    if is_uplo_trans(uplo, trans) {
-        number(product_complex::syrk::syrk(
-            uplo_of(uplo),
-            trans_of(trans),
-            Complex {
-                re: alphare,
-                im: alphaim,
-            },
-            a,
-            va,
-            Complex {
-                re: betare,
-                im: betaim,
-            },
-            c,
-            vc,
-        ))
-    } else {
-        number(judge2(va, a.len() / 2, vc, c.len() / 2, false))
-    }
+    let va = View::new(astart, arows, acols, ars, acs);
+    let vc = View::new(cstart, crows, ccols, crs, ccs);
+    let flags = (UpLo::try_from(uplo), Trans::try_from(trans));
+    let answer = match flags {
+        (Ok(uplo), Ok(trans)) => product_complex::syrk::syrk(uplo, trans, Complex { re: alphare, im: alphaim }, a, va, Complex { re: betare, im: betaim }, c, vc),
+        _ => judge2(va, a.len() / 2, vc, c.len() / 2, false),
+    };
+    u8::from(answer)
 }
 
 // C ← alpha A Aᴴ + beta C or alpha Aᴴ A + beta C, in the named triangle, alpha and beta real
@@ -366,22 +268,14 @@ pub extern "C" fn zb_zherk(
 ) -> u8
     ensures { Returns complex (herk_c complex uplo trans alpha (lent complex a.now (view_of astart arows acols ars acs)) beta (lent complex c.old (view_of cstart crows ccols crs ccs))) result c.new }
 {
-    let va = view_of(astart, arows, acols, ars, acs);
-    let vc = view_of(cstart, crows, ccols, crs, ccs);
-    if is_uplo_trans(uplo, trans) {
-        number(product_complex::herk::herk(
-            uplo_of(uplo),
-            trans_of(trans),
-            alpha,
-            a,
-            va,
-            beta,
-            c,
-            vc,
-        ))
-    } else {
-        number(judge2(va, a.len() / 2, vc, c.len() / 2, false))
-    }
+    let va = View::new(astart, arows, acols, ars, acs);
+    let vc = View::new(cstart, crows, ccols, crs, ccs);
+    let flags = (UpLo::try_from(uplo), Trans::try_from(trans));
+    let answer = match flags {
+        (Ok(uplo), Ok(trans)) => product_complex::herk::herk(uplo, trans, alpha, a, va, beta, c, vc),
+        _ => judge2(va, a.len() / 2, vc, c.len() / 2, false),
+    };
+    u8::from(answer)
 }
 
 // A ← A + alpha x xᴴ, in the named triangle, alpha real
@@ -404,13 +298,13 @@ pub extern "C" fn zb_zher(
 ) -> u8
     ensures { Returns complex (her_c complex uplo alpha (lent complex x.now (view_of xstart xrows xcols xrs xcs)) (lent complex a.old (view_of astart arows acols ars acs))) result a.new }
 {
-    let vx = view_of(xstart, xrows, xcols, xrs, xcs);
-    let va = view_of(astart, arows, acols, ars, acs);
-    if is_uplo(uplo) {
-        number(rank_complex::her::her(uplo_of(uplo), alpha, x, vx, a, va))
-    } else {
-        number(judge2(vx, x.len() / 2, va, a.len() / 2, false))
-    }
+    let vx = View::new(xstart, xrows, xcols, xrs, xcs);
+    let va = View::new(astart, arows, acols, ars, acs);
+    let answer = match UpLo::try_from(uplo) {
+        Ok(uplo) => rank::her::her(uplo, alpha, x, vx, a, va),
+        Err(_) => judge2(vx, x.len() / 2, va, a.len() / 2, false),
+    };
+    u8::from(answer)
 }
 
 // A ← A + alpha x yᴴ + conj(alpha) y xᴴ, in the named triangle
@@ -440,26 +334,14 @@ pub extern "C" fn zb_zher2(
 ) -> u8
     ensures { Returns complex (her2_c complex uplo (complex_of alphare alphaim) (lent complex x.now (view_of xstart xrows xcols xrs xcs)) (lent complex y.now (view_of ystart yrows ycols yrs ycs)) (lent complex a.old (view_of astart arows acols ars acs))) result a.new }
 {
-    let vx = view_of(xstart, xrows, xcols, xrs, xcs);
-    let vy = view_of(ystart, yrows, ycols, yrs, ycs);
-    let va = view_of(astart, arows, acols, ars, acs);
-    if is_uplo(uplo) {
-        number(rank_complex::her2::her2(
-            uplo_of(uplo),
-            Complex {
-                re: alphare,
-                im: alphaim,
-            },
-            x,
-            vx,
-            y,
-            vy,
-            a,
-            va,
-        ))
-    } else {
-        number(judge3(vx, x.len() / 2, vy, y.len() / 2, va, a.len() / 2, false))
-    }
+    let vx = View::new(xstart, xrows, xcols, xrs, xcs);
+    let vy = View::new(ystart, yrows, ycols, yrs, ycs);
+    let va = View::new(astart, arows, acols, ars, acs);
+    let answer = match UpLo::try_from(uplo) {
+        Ok(uplo) => rank::her2::her2(uplo, Complex { re: alphare, im: alphaim }, x, vx, y, vy, a, va),
+        Err(_) => judge3(vx, x.len() / 2, vy, y.len() / 2, va, a.len() / 2, false),
+    };
+    u8::from(answer)
 }
 
 // C ← alpha (A Bᵀ + B Aᵀ) + beta C or alpha (Aᵀ B + Bᵀ A) + beta C, in the named triangle
@@ -492,31 +374,15 @@ pub extern "C" fn zb_zsyr2k(
 ) -> u8
     ensures { Returns complex (syr2k_c complex uplo trans (complex_of alphare alphaim) (lent complex a.now (view_of astart arows acols ars acs)) (lent complex b.now (view_of bstart brows bcols brs bcs)) (complex_of betare betaim) (lent complex c.old (view_of cstart crows ccols crs ccs))) result c.new }
 {
-    let va = view_of(astart, arows, acols, ars, acs);
-    let vb = view_of(bstart, brows, bcols, brs, bcs);
-    let vc = view_of(cstart, crows, ccols, crs, ccs);
-    if is_uplo_trans(uplo, trans) {
-        number(rank_complex::syr2k::syr2k(
-            uplo_of(uplo),
-            trans_of(trans),
-            Complex {
-                re: alphare,
-                im: alphaim,
-            },
-            a,
-            va,
-            b,
-            vb,
-            Complex {
-                re: betare,
-                im: betaim,
-            },
-            c,
-            vc,
-        ))
-    } else {
-        number(judge3(va, a.len() / 2, vb, b.len() / 2, vc, c.len() / 2, false))
-    }
+    let va = View::new(astart, arows, acols, ars, acs);
+    let vb = View::new(bstart, brows, bcols, brs, bcs);
+    let vc = View::new(cstart, crows, ccols, crs, ccs);
+    let flags = (UpLo::try_from(uplo), Trans::try_from(trans));
+    let answer = match flags {
+        (Ok(uplo), Ok(trans)) => rank::syr2k::syr2k(uplo, trans, Complex { re: alphare, im: alphaim }, a, va, b, vb, Complex { re: betare, im: betaim }, c, vc),
+        _ => judge3(va, a.len() / 2, vb, b.len() / 2, vc, c.len() / 2, false),
+    };
+    u8::from(answer)
 }
 
 // C ← alpha A Bᴴ + conj(alpha) B Aᴴ + beta C or alpha Aᴴ B + conj(alpha) Bᴴ A + beta C, in the named triangle, beta real
@@ -548,28 +414,15 @@ pub extern "C" fn zb_zher2k(
 ) -> u8
     ensures { Returns complex (her2k_c complex uplo trans (complex_of alphare alphaim) (lent complex a.now (view_of astart arows acols ars acs)) (lent complex b.now (view_of bstart brows bcols brs bcs)) beta (lent complex c.old (view_of cstart crows ccols crs ccs))) result c.new }
 {
-    let va = view_of(astart, arows, acols, ars, acs);
-    let vb = view_of(bstart, brows, bcols, brs, bcs);
-    let vc = view_of(cstart, crows, ccols, crs, ccs);
-    if is_uplo_trans(uplo, trans) {
-        number(rank_complex::her2k::her2k(
-            uplo_of(uplo),
-            trans_of(trans),
-            Complex {
-                re: alphare,
-                im: alphaim,
-            },
-            a,
-            va,
-            b,
-            vb,
-            beta,
-            c,
-            vc,
-        ))
-    } else {
-        number(judge3(va, a.len() / 2, vb, b.len() / 2, vc, c.len() / 2, false))
-    }
+    let va = View::new(astart, arows, acols, ars, acs);
+    let vb = View::new(bstart, brows, bcols, brs, bcs);
+    let vc = View::new(cstart, crows, ccols, crs, ccs);
+    let flags = (UpLo::try_from(uplo), Trans::try_from(trans));
+    let answer = match flags {
+        (Ok(uplo), Ok(trans)) => rank::her2k::her2k(uplo, trans, Complex { re: alphare, im: alphaim }, a, va, b, vb, beta, c, vc),
+        _ => judge3(va, a.len() / 2, vb, b.len() / 2, vc, c.len() / 2, false),
+    };
+    u8::from(answer)
 }
 
 // x ← op(A) x, A triangular
@@ -593,21 +446,14 @@ pub extern "C" fn zb_ztrmv(
 ) -> u8
     ensures { Returns complex (trmv_c complex uplo trans diag (lent complex a.now (view_of astart arows acols ars acs)) (lent complex x.old (view_of xstart xrows xcols xrs xcs))) result x.new }
 {
-    let va = view_of(astart, arows, acols, ars, acs);
-    let vx = view_of(xstart, xrows, xcols, xrs, xcs);
-    if is_uplo_trans_diag(uplo, trans, diag) {
-        number(triangle_complex::trmv::trmv(
-            uplo_of(uplo),
-            trans_of(trans),
-            diag_of(diag),
-            a,
-            va,
-            x,
-            vx,
-        ))
-    } else {
-        number(judge2(va, a.len() / 2, vx, x.len() / 2, false))
-    }
+    let va = View::new(astart, arows, acols, ars, acs);
+    let vx = View::new(xstart, xrows, xcols, xrs, xcs);
+    let flags = (UpLo::try_from(uplo), Trans::try_from(trans), Diag::try_from(diag));
+    let answer = match flags {
+        (Ok(uplo), Ok(trans), Ok(diag)) => triangle_complex::trmv::trmv(uplo, trans, diag, a, va, x, vx),
+        _ => judge2(va, a.len() / 2, vx, x.len() / 2, false),
+    };
+    u8::from(answer)
 }
 
 // op(A) x = b solved, x holding b, A triangular
@@ -631,21 +477,14 @@ pub extern "C" fn zb_ztrsv(
 ) -> u8
     ensures { Returns complex (trsv_c complex uplo trans diag (lent complex a.now (view_of astart arows acols ars acs)) (lent complex x.old (view_of xstart xrows xcols xrs xcs))) result x.new }
 {
-    let va = view_of(astart, arows, acols, ars, acs);
-    let vx = view_of(xstart, xrows, xcols, xrs, xcs);
-    if is_uplo_trans_diag(uplo, trans, diag) {
-        number(triangle_complex::trsv::trsv(
-            uplo_of(uplo),
-            trans_of(trans),
-            diag_of(diag),
-            a,
-            va,
-            x,
-            vx,
-        ))
-    } else {
-        number(judge2(va, a.len() / 2, vx, x.len() / 2, false))
-    }
+    let va = View::new(astart, arows, acols, ars, acs);
+    let vx = View::new(xstart, xrows, xcols, xrs, xcs);
+    let flags = (UpLo::try_from(uplo), Trans::try_from(trans), Diag::try_from(diag));
+    let answer = match flags {
+        (Ok(uplo), Ok(trans), Ok(diag)) => triangle_complex::trsv::trsv(uplo, trans, diag, a, va, x, vx),
+        _ => judge2(va, a.len() / 2, vx, x.len() / 2, false),
+    };
+    u8::from(answer)
 }
 
 // B ← alpha op(A) B or alpha B op(A), A triangular
@@ -672,26 +511,14 @@ pub extern "C" fn zb_ztrmm(
 ) -> u8
     ensures { Returns complex (trmm_c complex side uplo trans diag (complex_of alphare alphaim) (lent complex a.now (view_of astart arows acols ars acs)) (lent complex b.old (view_of bstart brows bcols brs bcs))) result b.new }
 {
-    let va = view_of(astart, arows, acols, ars, acs);
-    let vb = view_of(bstart, brows, bcols, brs, bcs);
-    if is_side_uplo_trans_diag(side, uplo, trans, diag) {
-        number(triangle_complex::trmm::trmm(
-            side_of(side),
-            uplo_of(uplo),
-            trans_of(trans),
-            diag_of(diag),
-            Complex {
-                re: alphare,
-                im: alphaim,
-            },
-            a,
-            va,
-            b,
-            vb,
-        ))
-    } else {
-        number(judge2(va, a.len() / 2, vb, b.len() / 2, false))
-    }
+    let va = View::new(astart, arows, acols, ars, acs);
+    let vb = View::new(bstart, brows, bcols, brs, bcs);
+    let flags = (Side::try_from(side), UpLo::try_from(uplo), Trans::try_from(trans), Diag::try_from(diag));
+    let answer = match flags {
+        (Ok(side), Ok(uplo), Ok(trans), Ok(diag)) => triangle_complex::trmm::trmm(side, uplo, trans, diag, Complex { re: alphare, im: alphaim }, a, va, b, vb),
+        _ => judge2(va, a.len() / 2, vb, b.len() / 2, false),
+    };
+    u8::from(answer)
 }
 
 // op(A) X = alpha B or X op(A) = alpha B solved in B's place, A triangular
@@ -718,24 +545,12 @@ pub extern "C" fn zb_ztrsm(
 ) -> u8
     ensures { Returns complex (trsm_c complex side uplo trans diag (complex_of alphare alphaim) (lent complex a.now (view_of astart arows acols ars acs)) (lent complex b.old (view_of bstart brows bcols brs bcs))) result b.new }
 {
-    let va = view_of(astart, arows, acols, ars, acs);
-    let vb = view_of(bstart, brows, bcols, brs, bcs);
-    if is_side_uplo_trans_diag(side, uplo, trans, diag) {
-        number(triangle_complex::trsm::trsm(
-            side_of(side),
-            uplo_of(uplo),
-            trans_of(trans),
-            diag_of(diag),
-            Complex {
-                re: alphare,
-                im: alphaim,
-            },
-            a,
-            va,
-            b,
-            vb,
-        ))
-    } else {
-        number(judge2(va, a.len() / 2, vb, b.len() / 2, false))
-    }
+    let va = View::new(astart, arows, acols, ars, acs);
+    let vb = View::new(bstart, brows, bcols, brs, bcs);
+    let flags = (Side::try_from(side), UpLo::try_from(uplo), Trans::try_from(trans), Diag::try_from(diag));
+    let answer = match flags {
+        (Ok(side), Ok(uplo), Ok(trans), Ok(diag)) => triangle_complex::trsm::trsm(side, uplo, trans, diag, Complex { re: alphare, im: alphaim }, a, va, b, vb),
+        _ => judge2(va, a.len() / 2, vb, b.len() / 2, false),
+    };
+    u8::from(answer)
 }

@@ -8,12 +8,7 @@ ghost use Rattle.capi_flags.specs.Interface.{gemm_c, gemv_c, hemm_c, hemv_c, her
 ghost use Rattle.view.specs.Place.{view_of};
 
 use call_check::{judge2, judge3};
-use capi_flags::{
-    diag_of, is_side_uplo, is_side_uplo_trans_diag, is_trans, is_trans_trans, is_uplo,
-    is_uplo_trans, is_uplo_trans_diag, side_of, trans_of, uplo_of,
-};
-use number::Real64;
-use view::{number, view_of};
+use view::{Diag, Side, Trans, UpLo, View};
 
 // y ← alpha op(A) x + beta y
 #[unsafe(no_mangle)]
@@ -42,24 +37,14 @@ pub extern "C" fn zb_dgemv(
 ) -> u8
     ensures { Returns real64 (gemv_c real64 trans alpha (lent real64 a.now (view_of astart arows acols ars acs)) (lent real64 x.now (view_of xstart xrows xcols xrs xcs)) beta (lent real64 y.old (view_of ystart yrows ycols yrs ycs))) result y.new }
 {
-    let va = view_of(astart, arows, acols, ars, acs);
-    let vx = view_of(xstart, xrows, xcols, xrs, xcs);
-    let vy = view_of(ystart, yrows, ycols, yrs, ycs);
-    if is_trans(trans) {
-        number(product_real64::gemv::gemv(
-            trans_of(trans),
-            Real64(alpha),
-            a,
-            va,
-            x,
-            vx,
-            Real64(beta),
-            y,
-            vy,
-        ))
-    } else {
-        number(judge3(va, a.len(), vx, x.len(), vy, y.len(), false))
-    }
+    let va = View::new(astart, arows, acols, ars, acs);
+    let vx = View::new(xstart, xrows, xcols, xrs, xcs);
+    let vy = View::new(ystart, yrows, ycols, yrs, ycs);
+    let answer = match Trans::try_from(trans) {
+        Ok(trans) => product_real::gemv::gemv(trans, alpha, a, va, x, vx, beta, y, vy),
+        Err(_) => judge3(va, a.len(), vx, x.len(), vy, y.len(), false),
+    };
+    u8::from(answer)
 }
 
 // y ← alpha A x + beta y, A Hermitian
@@ -89,24 +74,14 @@ pub extern "C" fn zb_dhemv(
 ) -> u8
     ensures { Returns real64 (hemv_c real64 uplo alpha (lent real64 a.now (view_of astart arows acols ars acs)) (lent real64 x.now (view_of xstart xrows xcols xrs xcs)) beta (lent real64 y.old (view_of ystart yrows ycols yrs ycs))) result y.new }
 {
-    let va = view_of(astart, arows, acols, ars, acs);
-    let vx = view_of(xstart, xrows, xcols, xrs, xcs);
-    let vy = view_of(ystart, yrows, ycols, yrs, ycs);
-    if is_uplo(uplo) {
-        number(product_real64::hemv::hemv(
-            uplo_of(uplo),
-            Real64(alpha),
-            a,
-            va,
-            x,
-            vx,
-            Real64(beta),
-            y,
-            vy,
-        ))
-    } else {
-        number(judge3(va, a.len(), vx, x.len(), vy, y.len(), false))
-    }
+    let va = View::new(astart, arows, acols, ars, acs);
+    let vx = View::new(xstart, xrows, xcols, xrs, xcs);
+    let vy = View::new(ystart, yrows, ycols, yrs, ycs);
+    let answer = match UpLo::try_from(uplo) {
+        Ok(uplo) => product_real::hemv::hemv(uplo, alpha, a, va, x, vx, beta, y, vy),
+        Err(_) => judge3(va, a.len(), vx, x.len(), vy, y.len(), false),
+    };
+    u8::from(answer)
 }
 
 // C ← alpha op(A) op(B) + beta C
@@ -137,25 +112,15 @@ pub extern "C" fn zb_dgemm(
 ) -> u8
     ensures { Returns real64 (gemm_c real64 ta tb alpha (lent real64 a.now (view_of astart arows acols ars acs)) (lent real64 b.now (view_of bstart brows bcols brs bcs)) beta (lent real64 c.old (view_of cstart crows ccols crs ccs))) result c.new }
 {
-    let va = view_of(astart, arows, acols, ars, acs);
-    let vb = view_of(bstart, brows, bcols, brs, bcs);
-    let vc = view_of(cstart, crows, ccols, crs, ccs);
-    if is_trans_trans(ta, tb) {
-        number(product_real64::gemm::gemm(
-            trans_of(ta),
-            trans_of(tb),
-            Real64(alpha),
-            a,
-            va,
-            b,
-            vb,
-            Real64(beta),
-            c,
-            vc,
-        ))
-    } else {
-        number(judge3(va, a.len(), vb, b.len(), vc, c.len(), false))
-    }
+    let va = View::new(astart, arows, acols, ars, acs);
+    let vb = View::new(bstart, brows, bcols, brs, bcs);
+    let vc = View::new(cstart, crows, ccols, crs, ccs);
+    let flags = (Trans::try_from(ta), Trans::try_from(tb));
+    let answer = match flags {
+        (Ok(ta), Ok(tb)) => product_real::gemm::gemm(ta, tb, alpha, a, va, b, vb, beta, c, vc),
+        _ => judge3(va, a.len(), vb, b.len(), vc, c.len(), false),
+    };
+    u8::from(answer)
 }
 
 // C ← alpha A B + beta C or alpha B A + beta C, A symmetric
@@ -186,25 +151,15 @@ pub extern "C" fn zb_dsymm(
 ) -> u8
     ensures { Returns real64 (symm_c real64 side uplo alpha (lent real64 a.now (view_of astart arows acols ars acs)) (lent real64 b.now (view_of bstart brows bcols brs bcs)) beta (lent real64 c.old (view_of cstart crows ccols crs ccs))) result c.new }
 {
-    let va = view_of(astart, arows, acols, ars, acs);
-    let vb = view_of(bstart, brows, bcols, brs, bcs);
-    let vc = view_of(cstart, crows, ccols, crs, ccs);
-    if is_side_uplo(side, uplo) {
-        number(product_real64::symm::symm(
-            side_of(side),
-            uplo_of(uplo),
-            Real64(alpha),
-            a,
-            va,
-            b,
-            vb,
-            Real64(beta),
-            c,
-            vc,
-        ))
-    } else {
-        number(judge3(va, a.len(), vb, b.len(), vc, c.len(), false))
-    }
+    let va = View::new(astart, arows, acols, ars, acs);
+    let vb = View::new(bstart, brows, bcols, brs, bcs);
+    let vc = View::new(cstart, crows, ccols, crs, ccs);
+    let flags = (Side::try_from(side), UpLo::try_from(uplo));
+    let answer = match flags {
+        (Ok(side), Ok(uplo)) => product_real::symm::symm(side, uplo, alpha, a, va, b, vb, beta, c, vc),
+        _ => judge3(va, a.len(), vb, b.len(), vc, c.len(), false),
+    };
+    u8::from(answer)
 }
 
 // C ← alpha A B + beta C or alpha B A + beta C, A Hermitian
@@ -235,25 +190,15 @@ pub extern "C" fn zb_dhemm(
 ) -> u8
     ensures { Returns real64 (hemm_c real64 side uplo alpha (lent real64 a.now (view_of astart arows acols ars acs)) (lent real64 b.now (view_of bstart brows bcols brs bcs)) beta (lent real64 c.old (view_of cstart crows ccols crs ccs))) result c.new }
 {
-    let va = view_of(astart, arows, acols, ars, acs);
-    let vb = view_of(bstart, brows, bcols, brs, bcs);
-    let vc = view_of(cstart, crows, ccols, crs, ccs);
-    if is_side_uplo(side, uplo) {
-        number(product_real64::hemm::hemm(
-            side_of(side),
-            uplo_of(uplo),
-            Real64(alpha),
-            a,
-            va,
-            b,
-            vb,
-            Real64(beta),
-            c,
-            vc,
-        ))
-    } else {
-        number(judge3(va, a.len(), vb, b.len(), vc, c.len(), false))
-    }
+    let va = View::new(astart, arows, acols, ars, acs);
+    let vb = View::new(bstart, brows, bcols, brs, bcs);
+    let vc = View::new(cstart, crows, ccols, crs, ccs);
+    let flags = (Side::try_from(side), UpLo::try_from(uplo));
+    let answer = match flags {
+        (Ok(side), Ok(uplo)) => product_real::hemm::hemm(side, uplo, alpha, a, va, b, vb, beta, c, vc),
+        _ => judge3(va, a.len(), vb, b.len(), vc, c.len(), false),
+    };
+    u8::from(answer)
 }
 
 // C ← alpha A Aᵀ + beta C or alpha Aᵀ A + beta C, in the named triangle
@@ -278,22 +223,14 @@ pub extern "C" fn zb_dsyrk(
 ) -> u8
     ensures { Returns real64 (syrk_c real64 uplo trans alpha (lent real64 a.now (view_of astart arows acols ars acs)) beta (lent real64 c.old (view_of cstart crows ccols crs ccs))) result c.new }
 {
-    let va = view_of(astart, arows, acols, ars, acs);
-    let vc = view_of(cstart, crows, ccols, crs, ccs);
-    if is_uplo_trans(uplo, trans) {
-        number(product_real64::syrk::syrk(
-            uplo_of(uplo),
-            trans_of(trans),
-            Real64(alpha),
-            a,
-            va,
-            Real64(beta),
-            c,
-            vc,
-        ))
-    } else {
-        number(judge2(va, a.len(), vc, c.len(), false))
-    }
+    let va = View::new(astart, arows, acols, ars, acs);
+    let vc = View::new(cstart, crows, ccols, crs, ccs);
+    let flags = (UpLo::try_from(uplo), Trans::try_from(trans));
+    let answer = match flags {
+        (Ok(uplo), Ok(trans)) => product_real::syrk::syrk(uplo, trans, alpha, a, va, beta, c, vc),
+        _ => judge2(va, a.len(), vc, c.len(), false),
+    };
+    u8::from(answer)
 }
 
 // C ← alpha A Aᴴ + beta C or alpha Aᴴ A + beta C, in the named triangle, alpha and beta real
@@ -318,22 +255,14 @@ pub extern "C" fn zb_dherk(
 ) -> u8
     ensures { Returns real64 (herk_c real64 uplo trans alpha (lent real64 a.now (view_of astart arows acols ars acs)) beta (lent real64 c.old (view_of cstart crows ccols crs ccs))) result c.new }
 {
-    let va = view_of(astart, arows, acols, ars, acs);
-    let vc = view_of(cstart, crows, ccols, crs, ccs);
-    if is_uplo_trans(uplo, trans) {
-        number(product_real64::herk::herk(
-            uplo_of(uplo),
-            trans_of(trans),
-            alpha,
-            a,
-            va,
-            beta,
-            c,
-            vc,
-        ))
-    } else {
-        number(judge2(va, a.len(), vc, c.len(), false))
-    }
+    let va = View::new(astart, arows, acols, ars, acs);
+    let vc = View::new(cstart, crows, ccols, crs, ccs);
+    let flags = (UpLo::try_from(uplo), Trans::try_from(trans));
+    let answer = match flags {
+        (Ok(uplo), Ok(trans)) => product_real::herk::herk(uplo, trans, alpha, a, va, beta, c, vc),
+        _ => judge2(va, a.len(), vc, c.len(), false),
+    };
+    u8::from(answer)
 }
 
 // A ← A + alpha x xᴴ, in the named triangle, alpha real
@@ -356,13 +285,13 @@ pub extern "C" fn zb_dher(
 ) -> u8
     ensures { Returns real64 (her_c real64 uplo alpha (lent real64 x.now (view_of xstart xrows xcols xrs xcs)) (lent real64 a.old (view_of astart arows acols ars acs))) result a.new }
 {
-    let vx = view_of(xstart, xrows, xcols, xrs, xcs);
-    let va = view_of(astart, arows, acols, ars, acs);
-    if is_uplo(uplo) {
-        number(rank_real64::her::her(uplo_of(uplo), alpha, x, vx, a, va))
-    } else {
-        number(judge2(vx, x.len(), va, a.len(), false))
-    }
+    let vx = View::new(xstart, xrows, xcols, xrs, xcs);
+    let va = View::new(astart, arows, acols, ars, acs);
+    let answer = match UpLo::try_from(uplo) {
+        Ok(uplo) => rank::her::her(uplo, alpha, x, vx, a, va),
+        Err(_) => judge2(vx, x.len(), va, a.len(), false),
+    };
+    u8::from(answer)
 }
 
 // A ← A + alpha x yᴴ + conj(alpha) y xᴴ, in the named triangle
@@ -391,14 +320,14 @@ pub extern "C" fn zb_dher2(
 ) -> u8
     ensures { Returns real64 (her2_c real64 uplo alpha (lent real64 x.now (view_of xstart xrows xcols xrs xcs)) (lent real64 y.now (view_of ystart yrows ycols yrs ycs)) (lent real64 a.old (view_of astart arows acols ars acs))) result a.new }
 {
-    let vx = view_of(xstart, xrows, xcols, xrs, xcs);
-    let vy = view_of(ystart, yrows, ycols, yrs, ycs);
-    let va = view_of(astart, arows, acols, ars, acs);
-    if is_uplo(uplo) {
-        number(rank_real64::her2::her2(uplo_of(uplo), Real64(alpha), x, vx, y, vy, a, va))
-    } else {
-        number(judge3(vx, x.len(), vy, y.len(), va, a.len(), false))
-    }
+    let vx = View::new(xstart, xrows, xcols, xrs, xcs);
+    let vy = View::new(ystart, yrows, ycols, yrs, ycs);
+    let va = View::new(astart, arows, acols, ars, acs);
+    let answer = match UpLo::try_from(uplo) {
+        Ok(uplo) => rank::her2::her2(uplo, alpha, x, vx, y, vy, a, va),
+        Err(_) => judge3(vx, x.len(), vy, y.len(), va, a.len(), false),
+    };
+    u8::from(answer)
 }
 
 // C ← alpha (A Bᵀ + B Aᵀ) + beta C or alpha (Aᵀ B + Bᵀ A) + beta C, in the named triangle
@@ -429,25 +358,15 @@ pub extern "C" fn zb_dsyr2k(
 ) -> u8
     ensures { Returns real64 (syr2k_c real64 uplo trans alpha (lent real64 a.now (view_of astart arows acols ars acs)) (lent real64 b.now (view_of bstart brows bcols brs bcs)) beta (lent real64 c.old (view_of cstart crows ccols crs ccs))) result c.new }
 {
-    let va = view_of(astart, arows, acols, ars, acs);
-    let vb = view_of(bstart, brows, bcols, brs, bcs);
-    let vc = view_of(cstart, crows, ccols, crs, ccs);
-    if is_uplo_trans(uplo, trans) {
-        number(rank_real64::syr2k::syr2k(
-            uplo_of(uplo),
-            trans_of(trans),
-            Real64(alpha),
-            a,
-            va,
-            b,
-            vb,
-            Real64(beta),
-            c,
-            vc,
-        ))
-    } else {
-        number(judge3(va, a.len(), vb, b.len(), vc, c.len(), false))
-    }
+    let va = View::new(astart, arows, acols, ars, acs);
+    let vb = View::new(bstart, brows, bcols, brs, bcs);
+    let vc = View::new(cstart, crows, ccols, crs, ccs);
+    let flags = (UpLo::try_from(uplo), Trans::try_from(trans));
+    let answer = match flags {
+        (Ok(uplo), Ok(trans)) => rank::syr2k::syr2k(uplo, trans, alpha, a, va, b, vb, beta, c, vc),
+        _ => judge3(va, a.len(), vb, b.len(), vc, c.len(), false),
+    };
+    u8::from(answer)
 }
 
 // C ← alpha A Bᴴ + conj(alpha) B Aᴴ + beta C or alpha Aᴴ B + conj(alpha) Bᴴ A + beta C, in the named triangle, beta real
@@ -478,25 +397,15 @@ pub extern "C" fn zb_dher2k(
 ) -> u8
     ensures { Returns real64 (her2k_c real64 uplo trans alpha (lent real64 a.now (view_of astart arows acols ars acs)) (lent real64 b.now (view_of bstart brows bcols brs bcs)) beta (lent real64 c.old (view_of cstart crows ccols crs ccs))) result c.new }
 {
-    let va = view_of(astart, arows, acols, ars, acs);
-    let vb = view_of(bstart, brows, bcols, brs, bcs);
-    let vc = view_of(cstart, crows, ccols, crs, ccs);
-    if is_uplo_trans(uplo, trans) {
-        number(rank_real64::her2k::her2k(
-            uplo_of(uplo),
-            trans_of(trans),
-            Real64(alpha),
-            a,
-            va,
-            b,
-            vb,
-            beta,
-            c,
-            vc,
-        ))
-    } else {
-        number(judge3(va, a.len(), vb, b.len(), vc, c.len(), false))
-    }
+    let va = View::new(astart, arows, acols, ars, acs);
+    let vb = View::new(bstart, brows, bcols, brs, bcs);
+    let vc = View::new(cstart, crows, ccols, crs, ccs);
+    let flags = (UpLo::try_from(uplo), Trans::try_from(trans));
+    let answer = match flags {
+        (Ok(uplo), Ok(trans)) => rank::her2k::her2k(uplo, trans, alpha, a, va, b, vb, beta, c, vc),
+        _ => judge3(va, a.len(), vb, b.len(), vc, c.len(), false),
+    };
+    u8::from(answer)
 }
 
 // x ← op(A) x, A triangular
@@ -520,21 +429,14 @@ pub extern "C" fn zb_dtrmv(
 ) -> u8
     ensures { Returns real64 (trmv_c real64 uplo trans diag (lent real64 a.now (view_of astart arows acols ars acs)) (lent real64 x.old (view_of xstart xrows xcols xrs xcs))) result x.new }
 {
-    let va = view_of(astart, arows, acols, ars, acs);
-    let vx = view_of(xstart, xrows, xcols, xrs, xcs);
-    if is_uplo_trans_diag(uplo, trans, diag) {
-        number(triangle_real64::trmv::trmv(
-            uplo_of(uplo),
-            trans_of(trans),
-            diag_of(diag),
-            a,
-            va,
-            x,
-            vx,
-        ))
-    } else {
-        number(judge2(va, a.len(), vx, x.len(), false))
-    }
+    let va = View::new(astart, arows, acols, ars, acs);
+    let vx = View::new(xstart, xrows, xcols, xrs, xcs);
+    let flags = (UpLo::try_from(uplo), Trans::try_from(trans), Diag::try_from(diag));
+    let answer = match flags {
+        (Ok(uplo), Ok(trans), Ok(diag)) => triangle_real::trmv::trmv(uplo, trans, diag, a, va, x, vx),
+        _ => judge2(va, a.len(), vx, x.len(), false),
+    };
+    u8::from(answer)
 }
 
 // op(A) x = b solved, x holding b, A triangular
@@ -558,21 +460,14 @@ pub extern "C" fn zb_dtrsv(
 ) -> u8
     ensures { Returns real64 (trsv_c real64 uplo trans diag (lent real64 a.now (view_of astart arows acols ars acs)) (lent real64 x.old (view_of xstart xrows xcols xrs xcs))) result x.new }
 {
-    let va = view_of(astart, arows, acols, ars, acs);
-    let vx = view_of(xstart, xrows, xcols, xrs, xcs);
-    if is_uplo_trans_diag(uplo, trans, diag) {
-        number(triangle_real64::trsv::trsv(
-            uplo_of(uplo),
-            trans_of(trans),
-            diag_of(diag),
-            a,
-            va,
-            x,
-            vx,
-        ))
-    } else {
-        number(judge2(va, a.len(), vx, x.len(), false))
-    }
+    let va = View::new(astart, arows, acols, ars, acs);
+    let vx = View::new(xstart, xrows, xcols, xrs, xcs);
+    let flags = (UpLo::try_from(uplo), Trans::try_from(trans), Diag::try_from(diag));
+    let answer = match flags {
+        (Ok(uplo), Ok(trans), Ok(diag)) => triangle_real::trsv::trsv(uplo, trans, diag, a, va, x, vx),
+        _ => judge2(va, a.len(), vx, x.len(), false),
+    };
+    u8::from(answer)
 }
 
 // B ← alpha op(A) B or alpha B op(A), A triangular
@@ -598,23 +493,14 @@ pub extern "C" fn zb_dtrmm(
 ) -> u8
     ensures { Returns real64 (trmm_c real64 side uplo trans diag alpha (lent real64 a.now (view_of astart arows acols ars acs)) (lent real64 b.old (view_of bstart brows bcols brs bcs))) result b.new }
 {
-    let va = view_of(astart, arows, acols, ars, acs);
-    let vb = view_of(bstart, brows, bcols, brs, bcs);
-    if is_side_uplo_trans_diag(side, uplo, trans, diag) {
-        number(triangle_real64::trmm::trmm(
-            side_of(side),
-            uplo_of(uplo),
-            trans_of(trans),
-            diag_of(diag),
-            Real64(alpha),
-            a,
-            va,
-            b,
-            vb,
-        ))
-    } else {
-        number(judge2(va, a.len(), vb, b.len(), false))
-    }
+    let va = View::new(astart, arows, acols, ars, acs);
+    let vb = View::new(bstart, brows, bcols, brs, bcs);
+    let flags = (Side::try_from(side), UpLo::try_from(uplo), Trans::try_from(trans), Diag::try_from(diag));
+    let answer = match flags {
+        (Ok(side), Ok(uplo), Ok(trans), Ok(diag)) => triangle_real::trmm::trmm(side, uplo, trans, diag, alpha, a, va, b, vb),
+        _ => judge2(va, a.len(), vb, b.len(), false),
+    };
+    u8::from(answer)
 }
 
 // op(A) X = alpha B or X op(A) = alpha B solved in B's place, A triangular
@@ -640,21 +526,12 @@ pub extern "C" fn zb_dtrsm(
 ) -> u8
     ensures { Returns real64 (trsm_c real64 side uplo trans diag alpha (lent real64 a.now (view_of astart arows acols ars acs)) (lent real64 b.old (view_of bstart brows bcols brs bcs))) result b.new }
 {
-    let va = view_of(astart, arows, acols, ars, acs);
-    let vb = view_of(bstart, brows, bcols, brs, bcs);
-    if is_side_uplo_trans_diag(side, uplo, trans, diag) {
-        number(triangle_real64::trsm::trsm(
-            side_of(side),
-            uplo_of(uplo),
-            trans_of(trans),
-            diag_of(diag),
-            Real64(alpha),
-            a,
-            va,
-            b,
-            vb,
-        ))
-    } else {
-        number(judge2(va, a.len(), vb, b.len(), false))
-    }
+    let va = View::new(astart, arows, acols, ars, acs);
+    let vb = View::new(bstart, brows, bcols, brs, bcs);
+    let flags = (Side::try_from(side), UpLo::try_from(uplo), Trans::try_from(trans), Diag::try_from(diag));
+    let answer = match flags {
+        (Ok(side), Ok(uplo), Ok(trans), Ok(diag)) => triangle_real::trsm::trsm(side, uplo, trans, diag, alpha, a, va, b, vb),
+        _ => judge2(va, a.len(), vb, b.len(), false),
+    };
+    u8::from(answer)
 }
