@@ -8,8 +8,9 @@ ghost use Rattle.capi_flags.specs.Interface.{complex_of, gemm_c, gemv_c, hemm_c,
 ghost use Rattle.view.specs.Place.{view_of};
 
 use call_check::{judge2, judge3};
+use capi_flags::{side_uplo, side_uplo_trans_diag, trans_trans, uplo_trans, uplo_trans_diag};
 use kinds::Complex;
-use view::{Diag, Side, Trans, UpLo, View};
+use view::{Trans, UpLo, View};
 
 // y ← alpha op(A) x + beta y
 #[unsafe(no_mangle)]
@@ -43,11 +44,10 @@ pub extern "C" fn zb_zgemv(
     let va = View::new(astart, arows, acols, ars, acs);
     let vx = View::new(xstart, xrows, xcols, xrs, xcs);
     let vy = View::new(ystart, yrows, ycols, yrs, ycs);
-    let answer = match Trans::try_from(trans) {
-        Ok(trans) => product_complex::gemv::gemv(trans, Complex { re: alphare, im: alphaim }, a, va, x, vx, Complex { re: betare, im: betaim }, y, vy),
-        Err(_) => judge3(va, a.len() / 2, vx, x.len() / 2, vy, y.len() / 2, false),
-    };
-    u8::from(answer)
+    match Trans::try_from(trans) {
+        Ok(trans) => u8::from(product_complex::gemv::gemv(trans, Complex { re: alphare, im: alphaim }, a, va, x, vx, Complex { re: betare, im: betaim }, y, vy)),
+        Err(_) => u8::from(judge3(va, a.len() / 2, vx, x.len() / 2, vy, y.len() / 2, false)),
+    }
 }
 
 // y ← alpha A x + beta y, A Hermitian
@@ -82,11 +82,10 @@ pub extern "C" fn zb_zhemv(
     let va = View::new(astart, arows, acols, ars, acs);
     let vx = View::new(xstart, xrows, xcols, xrs, xcs);
     let vy = View::new(ystart, yrows, ycols, yrs, ycs);
-    let answer = match UpLo::try_from(uplo) {
-        Ok(uplo) => product_complex::hemv::hemv(uplo, Complex { re: alphare, im: alphaim }, a, va, x, vx, Complex { re: betare, im: betaim }, y, vy),
-        Err(_) => judge3(va, a.len() / 2, vx, x.len() / 2, vy, y.len() / 2, false),
-    };
-    u8::from(answer)
+    match UpLo::try_from(uplo) {
+        Ok(uplo) => u8::from(product_complex::hemv::hemv(uplo, Complex { re: alphare, im: alphaim }, a, va, x, vx, Complex { re: betare, im: betaim }, y, vy)),
+        Err(_) => u8::from(judge3(va, a.len() / 2, vx, x.len() / 2, vy, y.len() / 2, false)),
+    }
 }
 
 // C ← alpha op(A) op(B) + beta C
@@ -122,12 +121,10 @@ pub extern "C" fn zb_zgemm(
     let va = View::new(astart, arows, acols, ars, acs);
     let vb = View::new(bstart, brows, bcols, brs, bcs);
     let vc = View::new(cstart, crows, ccols, crs, ccs);
-    let flags = (Trans::try_from(ta), Trans::try_from(tb));
-    let answer = match flags {
-        (Ok(ta), Ok(tb)) => product_complex::gemm::gemm(ta, tb, Complex { re: alphare, im: alphaim }, a, va, b, vb, Complex { re: betare, im: betaim }, c, vc),
-        _ => judge3(va, a.len() / 2, vb, b.len() / 2, vc, c.len() / 2, false),
-    };
-    u8::from(answer)
+    match trans_trans(ta, tb) {
+        Ok((ta, tb)) => u8::from(product_complex::gemm::gemm(ta, tb, Complex { re: alphare, im: alphaim }, a, va, b, vb, Complex { re: betare, im: betaim }, c, vc)),
+        Err(_) => u8::from(judge3(va, a.len() / 2, vb, b.len() / 2, vc, c.len() / 2, false)),
+    }
 }
 
 // C ← alpha A B + beta C or alpha B A + beta C, A symmetric
@@ -163,12 +160,10 @@ pub extern "C" fn zb_zsymm(
     let va = View::new(astart, arows, acols, ars, acs);
     let vb = View::new(bstart, brows, bcols, brs, bcs);
     let vc = View::new(cstart, crows, ccols, crs, ccs);
-    let flags = (Side::try_from(side), UpLo::try_from(uplo));
-    let answer = match flags {
-        (Ok(side), Ok(uplo)) => product_complex::symm::symm(side, uplo, Complex { re: alphare, im: alphaim }, a, va, b, vb, Complex { re: betare, im: betaim }, c, vc),
-        _ => judge3(va, a.len() / 2, vb, b.len() / 2, vc, c.len() / 2, false),
-    };
-    u8::from(answer)
+    match side_uplo(side, uplo) {
+        Ok((side, uplo)) => u8::from(product_complex::symm::symm(side, uplo, Complex { re: alphare, im: alphaim }, a, va, b, vb, Complex { re: betare, im: betaim }, c, vc)),
+        Err(_) => u8::from(judge3(va, a.len() / 2, vb, b.len() / 2, vc, c.len() / 2, false)),
+    }
 }
 
 // C ← alpha A B + beta C or alpha B A + beta C, A Hermitian
@@ -204,12 +199,10 @@ pub extern "C" fn zb_zhemm(
     let va = View::new(astart, arows, acols, ars, acs);
     let vb = View::new(bstart, brows, bcols, brs, bcs);
     let vc = View::new(cstart, crows, ccols, crs, ccs);
-    let flags = (Side::try_from(side), UpLo::try_from(uplo));
-    let answer = match flags {
-        (Ok(side), Ok(uplo)) => product_complex::hemm::hemm(side, uplo, Complex { re: alphare, im: alphaim }, a, va, b, vb, Complex { re: betare, im: betaim }, c, vc),
-        _ => judge3(va, a.len() / 2, vb, b.len() / 2, vc, c.len() / 2, false),
-    };
-    u8::from(answer)
+    match side_uplo(side, uplo) {
+        Ok((side, uplo)) => u8::from(product_complex::hemm::hemm(side, uplo, Complex { re: alphare, im: alphaim }, a, va, b, vb, Complex { re: betare, im: betaim }, c, vc)),
+        Err(_) => u8::from(judge3(va, a.len() / 2, vb, b.len() / 2, vc, c.len() / 2, false)),
+    }
 }
 
 // C ← alpha A Aᵀ + beta C or alpha Aᵀ A + beta C, in the named triangle
@@ -238,12 +231,10 @@ pub extern "C" fn zb_zsyrk(
 {
     let va = View::new(astart, arows, acols, ars, acs);
     let vc = View::new(cstart, crows, ccols, crs, ccs);
-    let flags = (UpLo::try_from(uplo), Trans::try_from(trans));
-    let answer = match flags {
-        (Ok(uplo), Ok(trans)) => product_complex::syrk::syrk(uplo, trans, Complex { re: alphare, im: alphaim }, a, va, Complex { re: betare, im: betaim }, c, vc),
-        _ => judge2(va, a.len() / 2, vc, c.len() / 2, false),
-    };
-    u8::from(answer)
+    match uplo_trans(uplo, trans) {
+        Ok((uplo, trans)) => u8::from(product_complex::syrk::syrk(uplo, trans, Complex { re: alphare, im: alphaim }, a, va, Complex { re: betare, im: betaim }, c, vc)),
+        Err(_) => u8::from(judge2(va, a.len() / 2, vc, c.len() / 2, false)),
+    }
 }
 
 // C ← alpha A Aᴴ + beta C or alpha Aᴴ A + beta C, in the named triangle, alpha and beta real
@@ -270,12 +261,10 @@ pub extern "C" fn zb_zherk(
 {
     let va = View::new(astart, arows, acols, ars, acs);
     let vc = View::new(cstart, crows, ccols, crs, ccs);
-    let flags = (UpLo::try_from(uplo), Trans::try_from(trans));
-    let answer = match flags {
-        (Ok(uplo), Ok(trans)) => product_complex::herk::herk(uplo, trans, alpha, a, va, beta, c, vc),
-        _ => judge2(va, a.len() / 2, vc, c.len() / 2, false),
-    };
-    u8::from(answer)
+    match uplo_trans(uplo, trans) {
+        Ok((uplo, trans)) => u8::from(product_complex::herk::herk(uplo, trans, alpha, a, va, beta, c, vc)),
+        Err(_) => u8::from(judge2(va, a.len() / 2, vc, c.len() / 2, false)),
+    }
 }
 
 // A ← A + alpha x xᴴ, in the named triangle, alpha real
@@ -300,11 +289,10 @@ pub extern "C" fn zb_zher(
 {
     let vx = View::new(xstart, xrows, xcols, xrs, xcs);
     let va = View::new(astart, arows, acols, ars, acs);
-    let answer = match UpLo::try_from(uplo) {
-        Ok(uplo) => rank::her::her(uplo, alpha, x, vx, a, va),
-        Err(_) => judge2(vx, x.len() / 2, va, a.len() / 2, false),
-    };
-    u8::from(answer)
+    match UpLo::try_from(uplo) {
+        Ok(uplo) => u8::from(rank::her::her(uplo, alpha, x, vx, a, va)),
+        Err(_) => u8::from(judge2(vx, x.len() / 2, va, a.len() / 2, false)),
+    }
 }
 
 // A ← A + alpha x yᴴ + conj(alpha) y xᴴ, in the named triangle
@@ -337,11 +325,10 @@ pub extern "C" fn zb_zher2(
     let vx = View::new(xstart, xrows, xcols, xrs, xcs);
     let vy = View::new(ystart, yrows, ycols, yrs, ycs);
     let va = View::new(astart, arows, acols, ars, acs);
-    let answer = match UpLo::try_from(uplo) {
-        Ok(uplo) => rank::her2::her2(uplo, Complex { re: alphare, im: alphaim }, x, vx, y, vy, a, va),
-        Err(_) => judge3(vx, x.len() / 2, vy, y.len() / 2, va, a.len() / 2, false),
-    };
-    u8::from(answer)
+    match UpLo::try_from(uplo) {
+        Ok(uplo) => u8::from(rank::her2::her2(uplo, Complex { re: alphare, im: alphaim }, x, vx, y, vy, a, va)),
+        Err(_) => u8::from(judge3(vx, x.len() / 2, vy, y.len() / 2, va, a.len() / 2, false)),
+    }
 }
 
 // C ← alpha (A Bᵀ + B Aᵀ) + beta C or alpha (Aᵀ B + Bᵀ A) + beta C, in the named triangle
@@ -377,12 +364,10 @@ pub extern "C" fn zb_zsyr2k(
     let va = View::new(astart, arows, acols, ars, acs);
     let vb = View::new(bstart, brows, bcols, brs, bcs);
     let vc = View::new(cstart, crows, ccols, crs, ccs);
-    let flags = (UpLo::try_from(uplo), Trans::try_from(trans));
-    let answer = match flags {
-        (Ok(uplo), Ok(trans)) => rank::syr2k::syr2k(uplo, trans, Complex { re: alphare, im: alphaim }, a, va, b, vb, Complex { re: betare, im: betaim }, c, vc),
-        _ => judge3(va, a.len() / 2, vb, b.len() / 2, vc, c.len() / 2, false),
-    };
-    u8::from(answer)
+    match uplo_trans(uplo, trans) {
+        Ok((uplo, trans)) => u8::from(rank::syr2k::syr2k(uplo, trans, Complex { re: alphare, im: alphaim }, a, va, b, vb, Complex { re: betare, im: betaim }, c, vc)),
+        Err(_) => u8::from(judge3(va, a.len() / 2, vb, b.len() / 2, vc, c.len() / 2, false)),
+    }
 }
 
 // C ← alpha A Bᴴ + conj(alpha) B Aᴴ + beta C or alpha Aᴴ B + conj(alpha) Bᴴ A + beta C, in the named triangle, beta real
@@ -417,12 +402,10 @@ pub extern "C" fn zb_zher2k(
     let va = View::new(astart, arows, acols, ars, acs);
     let vb = View::new(bstart, brows, bcols, brs, bcs);
     let vc = View::new(cstart, crows, ccols, crs, ccs);
-    let flags = (UpLo::try_from(uplo), Trans::try_from(trans));
-    let answer = match flags {
-        (Ok(uplo), Ok(trans)) => rank::her2k::her2k(uplo, trans, Complex { re: alphare, im: alphaim }, a, va, b, vb, beta, c, vc),
-        _ => judge3(va, a.len() / 2, vb, b.len() / 2, vc, c.len() / 2, false),
-    };
-    u8::from(answer)
+    match uplo_trans(uplo, trans) {
+        Ok((uplo, trans)) => u8::from(rank::her2k::her2k(uplo, trans, Complex { re: alphare, im: alphaim }, a, va, b, vb, beta, c, vc)),
+        Err(_) => u8::from(judge3(va, a.len() / 2, vb, b.len() / 2, vc, c.len() / 2, false)),
+    }
 }
 
 // x ← op(A) x, A triangular
@@ -448,12 +431,10 @@ pub extern "C" fn zb_ztrmv(
 {
     let va = View::new(astart, arows, acols, ars, acs);
     let vx = View::new(xstart, xrows, xcols, xrs, xcs);
-    let flags = (UpLo::try_from(uplo), Trans::try_from(trans), Diag::try_from(diag));
-    let answer = match flags {
-        (Ok(uplo), Ok(trans), Ok(diag)) => triangle_complex::trmv::trmv(uplo, trans, diag, a, va, x, vx),
-        _ => judge2(va, a.len() / 2, vx, x.len() / 2, false),
-    };
-    u8::from(answer)
+    match uplo_trans_diag(uplo, trans, diag) {
+        Ok((uplo, trans, diag)) => u8::from(triangle_complex::trmv::trmv(uplo, trans, diag, a, va, x, vx)),
+        Err(_) => u8::from(judge2(va, a.len() / 2, vx, x.len() / 2, false)),
+    }
 }
 
 // op(A) x = b solved, x holding b, A triangular
@@ -479,12 +460,10 @@ pub extern "C" fn zb_ztrsv(
 {
     let va = View::new(astart, arows, acols, ars, acs);
     let vx = View::new(xstart, xrows, xcols, xrs, xcs);
-    let flags = (UpLo::try_from(uplo), Trans::try_from(trans), Diag::try_from(diag));
-    let answer = match flags {
-        (Ok(uplo), Ok(trans), Ok(diag)) => triangle_complex::trsv::trsv(uplo, trans, diag, a, va, x, vx),
-        _ => judge2(va, a.len() / 2, vx, x.len() / 2, false),
-    };
-    u8::from(answer)
+    match uplo_trans_diag(uplo, trans, diag) {
+        Ok((uplo, trans, diag)) => u8::from(triangle_complex::trsv::trsv(uplo, trans, diag, a, va, x, vx)),
+        Err(_) => u8::from(judge2(va, a.len() / 2, vx, x.len() / 2, false)),
+    }
 }
 
 // B ← alpha op(A) B or alpha B op(A), A triangular
@@ -513,12 +492,10 @@ pub extern "C" fn zb_ztrmm(
 {
     let va = View::new(astart, arows, acols, ars, acs);
     let vb = View::new(bstart, brows, bcols, brs, bcs);
-    let flags = (Side::try_from(side), UpLo::try_from(uplo), Trans::try_from(trans), Diag::try_from(diag));
-    let answer = match flags {
-        (Ok(side), Ok(uplo), Ok(trans), Ok(diag)) => triangle_complex::trmm::trmm(side, uplo, trans, diag, Complex { re: alphare, im: alphaim }, a, va, b, vb),
-        _ => judge2(va, a.len() / 2, vb, b.len() / 2, false),
-    };
-    u8::from(answer)
+    match side_uplo_trans_diag(side, uplo, trans, diag) {
+        Ok((side, uplo, trans, diag)) => u8::from(triangle_complex::trmm::trmm(side, uplo, trans, diag, Complex { re: alphare, im: alphaim }, a, va, b, vb)),
+        Err(_) => u8::from(judge2(va, a.len() / 2, vb, b.len() / 2, false)),
+    }
 }
 
 // op(A) X = alpha B or X op(A) = alpha B solved in B's place, A triangular
@@ -547,10 +524,8 @@ pub extern "C" fn zb_ztrsm(
 {
     let va = View::new(astart, arows, acols, ars, acs);
     let vb = View::new(bstart, brows, bcols, brs, bcs);
-    let flags = (Side::try_from(side), UpLo::try_from(uplo), Trans::try_from(trans), Diag::try_from(diag));
-    let answer = match flags {
-        (Ok(side), Ok(uplo), Ok(trans), Ok(diag)) => triangle_complex::trsm::trsm(side, uplo, trans, diag, Complex { re: alphare, im: alphaim }, a, va, b, vb),
-        _ => judge2(va, a.len() / 2, vb, b.len() / 2, false),
-    };
-    u8::from(answer)
+    match side_uplo_trans_diag(side, uplo, trans, diag) {
+        Ok((side, uplo, trans, diag)) => u8::from(triangle_complex::trsm::trsm(side, uplo, trans, diag, Complex { re: alphare, im: alphaim }, a, va, b, vb)),
+        Err(_) => u8::from(judge2(va, a.len() / 2, vb, b.len() / 2, false)),
+    }
 }

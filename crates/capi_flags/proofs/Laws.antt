@@ -16,10 +16,10 @@ use Rattle.blas.specs.Outcome.{Outcome, outcome, Gives}
 use Rattle.view.specs.Place.{view_of}
 use Rattle.capi_flags.specs.Interface.{Returns, flagged}
 
-pub called : {K : Kind} {valid flag : Bool} {o : Outcome K} {r : Answer} {n : ℕ} {after : List K.Cell} (refusal : Answer) (entry : List K.Cell)
-    → flag ≡ valid → flag ≡ true → Gives K o r after → n ≡ answer_number r → Returns K (flagged K valid o refusal entry) n after
+pub called : {K : Kind} {valid : Bool} {o : Outcome K} {r : Answer} {n : ℕ} {after : List K.Cell} (refusal : Answer) (entry : List K.Cell)
+    → valid ≡ true → Gives K o r after → n ≡ answer_number r → Returns K (flagged K valid o refusal entry) n after
 unfolding flagged
-called refusal entry told h g e = rw (← told, h) (record { answer = e ∙ g.answer; slab = g.slab })
+called refusal entry h g e = rw h (record { answer = e ∙ g.answer; slab = g.slab })
 
 as-refused : {K : Kind} {entry : List K.Cell} (a : Answer) → Returns K (outcome K a entry entry) (answer_number a) entry
 as-refused Done = record { answer = refl; slab = refl }
@@ -29,10 +29,10 @@ as-refused ShapeMismatch = record { answer = refl; slab = refl }
 as-refused Overlap = record { answer = refl; slab = refl }
 as-refused Singular = record { answer = refl; slab = refl }
 
-pub refused : {K : Kind} {valid flag : Bool} {r refusal : Answer} {n : ℕ} {entry : List K.Cell} (o : Outcome K)
-    → flag ≡ valid → flag ≡ false → r ≡ refusal → n ≡ answer_number r → Returns K (flagged K valid o refusal entry) n entry
+pub refused : {K : Kind} {valid : Bool} {r refusal : Answer} {n : ℕ} {entry : List K.Cell} (o : Outcome K)
+    → valid ≡ false → r ≡ refusal → n ≡ answer_number r → Returns K (flagged K valid o refusal entry) n entry
 unfolding flagged
-refused {refusal = refusal} o told h q e = rw (← told, h, e, q) (as-refused refusal)
+refused {refusal = refusal} o h q e = rw (h, e, q) (as-refused refusal)
 
 -- ---- views: a signed argument arrives as its bits
 

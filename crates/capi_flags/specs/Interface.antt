@@ -1,8 +1,9 @@
 -- A call through the C interface: flags and views come as numbers, and the answer's number goes back.
-use Rattle.std.specs.Prelude.{ℕ, Bool, true, false, ◌&&◌, List, [], ◌∷◌, ◌≡◌, Float}
+use Rattle.std.specs.Prelude.{ℕ, Bool, true, false, ◌&&◌, List, [], ◌∷◌, ◌≡◌, Float, Result, MatchResult}
 use Rattle.number.specs.Kind.{Kind}
 use Rattle.number.specs.declared.Complex.{Complex}
 use Rattle.view.specs.declared.Answer.{Answer}
+use Rattle.view.specs.declared.UnknownFlag.{UnknownFlag}
 use Rattle.view.specs.Flags.{trans_in_range, trans_of, up_lo_in_range, up_lo_of, side_in_range, side_of, diag_in_range, diag_of}
 use Rattle.view.specs.Judge.{arg, judge}
 use Rattle.slabs.specs.Elem.{Lent}
@@ -22,6 +23,12 @@ use Rattle.blas.specs.Trmv.{trmv}
 use Rattle.blas.specs.Trsv.{trsv}
 use Rattle.blas.specs.Trmm.{trmm}
 use Rattle.blas.specs.Trsm.{trsm}
+
+-- ---- flags
+
+-- where every flag is in its range the flags, else an error
+abbrev pub Decoded : {F : Type 0} → Bool → F → Result F UnknownFlag → Type 0
+Decoded valid flags r = MatchResult r (λ f. (valid ≡ true) × (f ≡ flags)) (λ e. valid ≡ false)
 
 -- ---- scalars: a complex number comes as its two parts
 

@@ -8,7 +8,8 @@ ghost use Rattle.capi_flags.specs.Interface.{gemm_c, gemv_c, hemm_c, hemv_c, her
 ghost use Rattle.view.specs.Place.{view_of};
 
 use call_check::{judge2, judge3};
-use view::{Diag, Side, Trans, UpLo, View};
+use capi_flags::{side_uplo, side_uplo_trans_diag, trans_trans, uplo_trans, uplo_trans_diag};
+use view::{Trans, UpLo, View};
 
 // y ← alpha op(A) x + beta y
 #[unsafe(no_mangle)]
@@ -40,11 +41,10 @@ pub extern "C" fn zb_dgemv(
     let va = View::new(astart, arows, acols, ars, acs);
     let vx = View::new(xstart, xrows, xcols, xrs, xcs);
     let vy = View::new(ystart, yrows, ycols, yrs, ycs);
-    let answer = match Trans::try_from(trans) {
-        Ok(trans) => product_real::gemv::gemv(trans, alpha, a, va, x, vx, beta, y, vy),
-        Err(_) => judge3(va, a.len(), vx, x.len(), vy, y.len(), false),
-    };
-    u8::from(answer)
+    match Trans::try_from(trans) {
+        Ok(trans) => u8::from(product_real::gemv::gemv(trans, alpha, a, va, x, vx, beta, y, vy)),
+        Err(_) => u8::from(judge3(va, a.len(), vx, x.len(), vy, y.len(), false)),
+    }
 }
 
 // y ← alpha A x + beta y, A Hermitian
@@ -77,11 +77,10 @@ pub extern "C" fn zb_dhemv(
     let va = View::new(astart, arows, acols, ars, acs);
     let vx = View::new(xstart, xrows, xcols, xrs, xcs);
     let vy = View::new(ystart, yrows, ycols, yrs, ycs);
-    let answer = match UpLo::try_from(uplo) {
-        Ok(uplo) => product_real::hemv::hemv(uplo, alpha, a, va, x, vx, beta, y, vy),
-        Err(_) => judge3(va, a.len(), vx, x.len(), vy, y.len(), false),
-    };
-    u8::from(answer)
+    match UpLo::try_from(uplo) {
+        Ok(uplo) => u8::from(product_real::hemv::hemv(uplo, alpha, a, va, x, vx, beta, y, vy)),
+        Err(_) => u8::from(judge3(va, a.len(), vx, x.len(), vy, y.len(), false)),
+    }
 }
 
 // C ← alpha op(A) op(B) + beta C
@@ -115,12 +114,10 @@ pub extern "C" fn zb_dgemm(
     let va = View::new(astart, arows, acols, ars, acs);
     let vb = View::new(bstart, brows, bcols, brs, bcs);
     let vc = View::new(cstart, crows, ccols, crs, ccs);
-    let flags = (Trans::try_from(ta), Trans::try_from(tb));
-    let answer = match flags {
-        (Ok(ta), Ok(tb)) => product_real::gemm::gemm(ta, tb, alpha, a, va, b, vb, beta, c, vc),
-        _ => judge3(va, a.len(), vb, b.len(), vc, c.len(), false),
-    };
-    u8::from(answer)
+    match trans_trans(ta, tb) {
+        Ok((ta, tb)) => u8::from(product_real::gemm::gemm(ta, tb, alpha, a, va, b, vb, beta, c, vc)),
+        Err(_) => u8::from(judge3(va, a.len(), vb, b.len(), vc, c.len(), false)),
+    }
 }
 
 // C ← alpha A B + beta C or alpha B A + beta C, A symmetric
@@ -154,12 +151,10 @@ pub extern "C" fn zb_dsymm(
     let va = View::new(astart, arows, acols, ars, acs);
     let vb = View::new(bstart, brows, bcols, brs, bcs);
     let vc = View::new(cstart, crows, ccols, crs, ccs);
-    let flags = (Side::try_from(side), UpLo::try_from(uplo));
-    let answer = match flags {
-        (Ok(side), Ok(uplo)) => product_real::symm::symm(side, uplo, alpha, a, va, b, vb, beta, c, vc),
-        _ => judge3(va, a.len(), vb, b.len(), vc, c.len(), false),
-    };
-    u8::from(answer)
+    match side_uplo(side, uplo) {
+        Ok((side, uplo)) => u8::from(product_real::symm::symm(side, uplo, alpha, a, va, b, vb, beta, c, vc)),
+        Err(_) => u8::from(judge3(va, a.len(), vb, b.len(), vc, c.len(), false)),
+    }
 }
 
 // C ← alpha A B + beta C or alpha B A + beta C, A Hermitian
@@ -193,12 +188,10 @@ pub extern "C" fn zb_dhemm(
     let va = View::new(astart, arows, acols, ars, acs);
     let vb = View::new(bstart, brows, bcols, brs, bcs);
     let vc = View::new(cstart, crows, ccols, crs, ccs);
-    let flags = (Side::try_from(side), UpLo::try_from(uplo));
-    let answer = match flags {
-        (Ok(side), Ok(uplo)) => product_real::hemm::hemm(side, uplo, alpha, a, va, b, vb, beta, c, vc),
-        _ => judge3(va, a.len(), vb, b.len(), vc, c.len(), false),
-    };
-    u8::from(answer)
+    match side_uplo(side, uplo) {
+        Ok((side, uplo)) => u8::from(product_real::hemm::hemm(side, uplo, alpha, a, va, b, vb, beta, c, vc)),
+        Err(_) => u8::from(judge3(va, a.len(), vb, b.len(), vc, c.len(), false)),
+    }
 }
 
 // C ← alpha A Aᵀ + beta C or alpha Aᵀ A + beta C, in the named triangle
@@ -225,12 +218,10 @@ pub extern "C" fn zb_dsyrk(
 {
     let va = View::new(astart, arows, acols, ars, acs);
     let vc = View::new(cstart, crows, ccols, crs, ccs);
-    let flags = (UpLo::try_from(uplo), Trans::try_from(trans));
-    let answer = match flags {
-        (Ok(uplo), Ok(trans)) => product_real::syrk::syrk(uplo, trans, alpha, a, va, beta, c, vc),
-        _ => judge2(va, a.len(), vc, c.len(), false),
-    };
-    u8::from(answer)
+    match uplo_trans(uplo, trans) {
+        Ok((uplo, trans)) => u8::from(product_real::syrk::syrk(uplo, trans, alpha, a, va, beta, c, vc)),
+        Err(_) => u8::from(judge2(va, a.len(), vc, c.len(), false)),
+    }
 }
 
 // C ← alpha A Aᴴ + beta C or alpha Aᴴ A + beta C, in the named triangle, alpha and beta real
@@ -257,12 +248,10 @@ pub extern "C" fn zb_dherk(
 {
     let va = View::new(astart, arows, acols, ars, acs);
     let vc = View::new(cstart, crows, ccols, crs, ccs);
-    let flags = (UpLo::try_from(uplo), Trans::try_from(trans));
-    let answer = match flags {
-        (Ok(uplo), Ok(trans)) => product_real::herk::herk(uplo, trans, alpha, a, va, beta, c, vc),
-        _ => judge2(va, a.len(), vc, c.len(), false),
-    };
-    u8::from(answer)
+    match uplo_trans(uplo, trans) {
+        Ok((uplo, trans)) => u8::from(product_real::herk::herk(uplo, trans, alpha, a, va, beta, c, vc)),
+        Err(_) => u8::from(judge2(va, a.len(), vc, c.len(), false)),
+    }
 }
 
 // A ← A + alpha x xᴴ, in the named triangle, alpha real
@@ -287,11 +276,10 @@ pub extern "C" fn zb_dher(
 {
     let vx = View::new(xstart, xrows, xcols, xrs, xcs);
     let va = View::new(astart, arows, acols, ars, acs);
-    let answer = match UpLo::try_from(uplo) {
-        Ok(uplo) => rank::her::her(uplo, alpha, x, vx, a, va),
-        Err(_) => judge2(vx, x.len(), va, a.len(), false),
-    };
-    u8::from(answer)
+    match UpLo::try_from(uplo) {
+        Ok(uplo) => u8::from(rank::her::her(uplo, alpha, x, vx, a, va)),
+        Err(_) => u8::from(judge2(vx, x.len(), va, a.len(), false)),
+    }
 }
 
 // A ← A + alpha x yᴴ + conj(alpha) y xᴴ, in the named triangle
@@ -323,11 +311,10 @@ pub extern "C" fn zb_dher2(
     let vx = View::new(xstart, xrows, xcols, xrs, xcs);
     let vy = View::new(ystart, yrows, ycols, yrs, ycs);
     let va = View::new(astart, arows, acols, ars, acs);
-    let answer = match UpLo::try_from(uplo) {
-        Ok(uplo) => rank::her2::her2(uplo, alpha, x, vx, y, vy, a, va),
-        Err(_) => judge3(vx, x.len(), vy, y.len(), va, a.len(), false),
-    };
-    u8::from(answer)
+    match UpLo::try_from(uplo) {
+        Ok(uplo) => u8::from(rank::her2::her2(uplo, alpha, x, vx, y, vy, a, va)),
+        Err(_) => u8::from(judge3(vx, x.len(), vy, y.len(), va, a.len(), false)),
+    }
 }
 
 // C ← alpha (A Bᵀ + B Aᵀ) + beta C or alpha (Aᵀ B + Bᵀ A) + beta C, in the named triangle
@@ -361,12 +348,10 @@ pub extern "C" fn zb_dsyr2k(
     let va = View::new(astart, arows, acols, ars, acs);
     let vb = View::new(bstart, brows, bcols, brs, bcs);
     let vc = View::new(cstart, crows, ccols, crs, ccs);
-    let flags = (UpLo::try_from(uplo), Trans::try_from(trans));
-    let answer = match flags {
-        (Ok(uplo), Ok(trans)) => rank::syr2k::syr2k(uplo, trans, alpha, a, va, b, vb, beta, c, vc),
-        _ => judge3(va, a.len(), vb, b.len(), vc, c.len(), false),
-    };
-    u8::from(answer)
+    match uplo_trans(uplo, trans) {
+        Ok((uplo, trans)) => u8::from(rank::syr2k::syr2k(uplo, trans, alpha, a, va, b, vb, beta, c, vc)),
+        Err(_) => u8::from(judge3(va, a.len(), vb, b.len(), vc, c.len(), false)),
+    }
 }
 
 // C ← alpha A Bᴴ + conj(alpha) B Aᴴ + beta C or alpha Aᴴ B + conj(alpha) Bᴴ A + beta C, in the named triangle, beta real
@@ -400,12 +385,10 @@ pub extern "C" fn zb_dher2k(
     let va = View::new(astart, arows, acols, ars, acs);
     let vb = View::new(bstart, brows, bcols, brs, bcs);
     let vc = View::new(cstart, crows, ccols, crs, ccs);
-    let flags = (UpLo::try_from(uplo), Trans::try_from(trans));
-    let answer = match flags {
-        (Ok(uplo), Ok(trans)) => rank::her2k::her2k(uplo, trans, alpha, a, va, b, vb, beta, c, vc),
-        _ => judge3(va, a.len(), vb, b.len(), vc, c.len(), false),
-    };
-    u8::from(answer)
+    match uplo_trans(uplo, trans) {
+        Ok((uplo, trans)) => u8::from(rank::her2k::her2k(uplo, trans, alpha, a, va, b, vb, beta, c, vc)),
+        Err(_) => u8::from(judge3(va, a.len(), vb, b.len(), vc, c.len(), false)),
+    }
 }
 
 // x ← op(A) x, A triangular
@@ -431,12 +414,10 @@ pub extern "C" fn zb_dtrmv(
 {
     let va = View::new(astart, arows, acols, ars, acs);
     let vx = View::new(xstart, xrows, xcols, xrs, xcs);
-    let flags = (UpLo::try_from(uplo), Trans::try_from(trans), Diag::try_from(diag));
-    let answer = match flags {
-        (Ok(uplo), Ok(trans), Ok(diag)) => triangle_real::trmv::trmv(uplo, trans, diag, a, va, x, vx),
-        _ => judge2(va, a.len(), vx, x.len(), false),
-    };
-    u8::from(answer)
+    match uplo_trans_diag(uplo, trans, diag) {
+        Ok((uplo, trans, diag)) => u8::from(triangle_real::trmv::trmv(uplo, trans, diag, a, va, x, vx)),
+        Err(_) => u8::from(judge2(va, a.len(), vx, x.len(), false)),
+    }
 }
 
 // op(A) x = b solved, x holding b, A triangular
@@ -462,12 +443,10 @@ pub extern "C" fn zb_dtrsv(
 {
     let va = View::new(astart, arows, acols, ars, acs);
     let vx = View::new(xstart, xrows, xcols, xrs, xcs);
-    let flags = (UpLo::try_from(uplo), Trans::try_from(trans), Diag::try_from(diag));
-    let answer = match flags {
-        (Ok(uplo), Ok(trans), Ok(diag)) => triangle_real::trsv::trsv(uplo, trans, diag, a, va, x, vx),
-        _ => judge2(va, a.len(), vx, x.len(), false),
-    };
-    u8::from(answer)
+    match uplo_trans_diag(uplo, trans, diag) {
+        Ok((uplo, trans, diag)) => u8::from(triangle_real::trsv::trsv(uplo, trans, diag, a, va, x, vx)),
+        Err(_) => u8::from(judge2(va, a.len(), vx, x.len(), false)),
+    }
 }
 
 // B ← alpha op(A) B or alpha B op(A), A triangular
@@ -495,12 +474,10 @@ pub extern "C" fn zb_dtrmm(
 {
     let va = View::new(astart, arows, acols, ars, acs);
     let vb = View::new(bstart, brows, bcols, brs, bcs);
-    let flags = (Side::try_from(side), UpLo::try_from(uplo), Trans::try_from(trans), Diag::try_from(diag));
-    let answer = match flags {
-        (Ok(side), Ok(uplo), Ok(trans), Ok(diag)) => triangle_real::trmm::trmm(side, uplo, trans, diag, alpha, a, va, b, vb),
-        _ => judge2(va, a.len(), vb, b.len(), false),
-    };
-    u8::from(answer)
+    match side_uplo_trans_diag(side, uplo, trans, diag) {
+        Ok((side, uplo, trans, diag)) => u8::from(triangle_real::trmm::trmm(side, uplo, trans, diag, alpha, a, va, b, vb)),
+        Err(_) => u8::from(judge2(va, a.len(), vb, b.len(), false)),
+    }
 }
 
 // op(A) X = alpha B or X op(A) = alpha B solved in B's place, A triangular
@@ -528,10 +505,8 @@ pub extern "C" fn zb_dtrsm(
 {
     let va = View::new(astart, arows, acols, ars, acs);
     let vb = View::new(bstart, brows, bcols, brs, bcs);
-    let flags = (Side::try_from(side), UpLo::try_from(uplo), Trans::try_from(trans), Diag::try_from(diag));
-    let answer = match flags {
-        (Ok(side), Ok(uplo), Ok(trans), Ok(diag)) => triangle_real::trsm::trsm(side, uplo, trans, diag, alpha, a, va, b, vb),
-        _ => judge2(va, a.len(), vb, b.len(), false),
-    };
-    u8::from(answer)
+    match side_uplo_trans_diag(side, uplo, trans, diag) {
+        Ok((side, uplo, trans, diag)) => u8::from(triangle_real::trsm::trsm(side, uplo, trans, diag, alpha, a, va, b, vb)),
+        Err(_) => u8::from(judge2(va, a.len(), vb, b.len(), false)),
+    }
 }
