@@ -9,6 +9,7 @@ use view::View;
 pub const LIMIT: usize = 64;
 
 #[tactic(auto, unfolding(view::specs::Refusals::too_large))]
+#[inline(always)]
 pub fn too_large(v: View) -> bool
     ensures { result ≡ too_large v }
 {
@@ -37,6 +38,7 @@ pub fn product_within(room: usize, a: usize, x: usize) -> bool
 }
 
 // Whether a * x + b * y is.
+#[inline(never)]
 fn within(room: usize, a: usize, x: usize, b: usize, y: usize) -> bool
     ensures { result ≡ leb (a * x + b * y) room }
 {
@@ -45,6 +47,7 @@ fn within(room: usize, a: usize, x: usize, b: usize, y: usize) -> bool
 
 // Whether the last place is at the slab's end or past it, or the first below 0.
 #[tactic(auto, using(crate::proofs::Extent::outside_is))]
+#[inline(always)]
 fn outside(v: View, len: usize) -> bool
     requires rows { 0 < v.rows }
     requires cols { 0 < v.cols }
@@ -58,6 +61,7 @@ fn outside(v: View, len: usize) -> bool
 }
 
 #[tactic(auto, using(crate::proofs::Extent::plain_cases))]
+#[inline(always)]
 pub fn out_of_bounds(v: View, len: usize) -> bool
     ensures { result ≡ out_of_bounds v len }
 {

@@ -2,6 +2,9 @@
 // with the length of its slab in elements, as the definitions (view, specs/Checks) and the theorems on them have it; flags
 // that no shape rule looks at are left out. Each takes what the quick test of the call answered: a call that passed it is
 // done.
+//
+// A view is passed by its place in memory. So what takes views is put into its caller, which then need not store them, and
+// what is called takes numbers (`within`, `steps_meet`).
 
 #![tactic(auto)]
 
@@ -22,6 +25,7 @@ pub use bounds::LIMIT;
 use view::{Answer, Side, Trans, View};
 
 // The lowest refusal met, by whether some view is too large, some is out of bounds, and the shapes are wrong.
+#[inline(always)]
 fn lowest(large: bool, out: bool, wrong: bool, target: View) -> Answer
     ensures { result ≡ lowest_of large out wrong target }
 {
@@ -40,6 +44,7 @@ fn lowest(large: bool, out: bool, wrong: bool, target: View) -> Answer
 
 // A call with two views, the second its target. Where the flags are out of their range no shapes go together.
 #[tactic(auto, unfolding(view::specs::Judge::judge))]
+#[inline(always)]
 pub fn judge2(a: View, la: usize, b: View, lb: usize, shapes: bool) -> Answer
     ensures { result ≡ judge (arg a la ∷ arg b lb ∷ []) shapes b }
 {
@@ -50,6 +55,7 @@ pub fn judge2(a: View, la: usize, b: View, lb: usize, shapes: bool) -> Answer
 
 // A call with three views, the third its target.
 #[tactic(auto, unfolding(view::specs::Judge::judge))]
+#[inline(always)]
 pub fn judge3(a: View, la: usize, b: View, lb: usize, c: View, lc: usize, shapes: bool) -> Answer
     ensures { result ≡ judge (arg a la ∷ arg b lb ∷ arg c lc ∷ []) shapes c }
 {
@@ -68,6 +74,7 @@ pub fn check_read(v: View, len: usize) -> Answer
 }
 
 #[tactic(auto, using(crate::proofs::Ops::passes))]
+#[inline(always)]
 pub fn check_gemv(
     quick: bool,
     t: Trans,
@@ -89,6 +96,7 @@ pub fn check_gemv(
 }
 
 #[tactic(auto, using(crate::proofs::Ops::passes))]
+#[inline(always)]
 pub fn check_hemv(quick: bool, a: View, la: usize, x: View, lx: usize, y: View, ly: usize) -> Answer
     requires { quick ≡ quick_hemv a la x lx y ly }
     ensures { result ≡ specs.hemv_check a la x lx y ly }
@@ -101,6 +109,7 @@ pub fn check_hemv(quick: bool, a: View, la: usize, x: View, lx: usize, y: View, 
 }
 
 #[tactic(auto, using(crate::proofs::Ops::passes))]
+#[inline(always)]
 pub fn check_her(quick: bool, x: View, lx: usize, a: View, la: usize) -> Answer
     requires { quick ≡ quick_her x lx a la }
     ensures { result ≡ specs.her_check x lx a la }
@@ -113,6 +122,7 @@ pub fn check_her(quick: bool, x: View, lx: usize, a: View, la: usize) -> Answer
 }
 
 #[tactic(auto, using(crate::proofs::Ops::passes))]
+#[inline(always)]
 pub fn check_her2(quick: bool, x: View, lx: usize, y: View, ly: usize, a: View, la: usize) -> Answer
     requires { quick ≡ quick_her2 x lx y ly a la }
     ensures { result ≡ specs.her2_check x lx y ly a la }
@@ -125,6 +135,7 @@ pub fn check_her2(quick: bool, x: View, lx: usize, y: View, ly: usize, a: View, 
 }
 
 #[tactic(auto, using(crate::proofs::Ops::passes))]
+#[inline(always)]
 pub fn check_trmv(quick: bool, a: View, la: usize, x: View, lx: usize) -> Answer
     requires { quick ≡ quick_trmv a la x lx }
     ensures { result ≡ specs.trmv_check a la x lx }
@@ -136,6 +147,7 @@ pub fn check_trmv(quick: bool, a: View, la: usize, x: View, lx: usize) -> Answer
     }
 }
 
+#[inline(always)]
 pub fn check_trsv(quick: bool, a: View, la: usize, x: View, lx: usize) -> Answer
     requires { quick ≡ quick_trmv a la x lx }
     ensures { result ≡ specs.trsv_check a la x lx }
@@ -144,6 +156,7 @@ pub fn check_trsv(quick: bool, a: View, la: usize, x: View, lx: usize) -> Answer
 }
 
 #[tactic(auto, using(crate::proofs::Ops::passes))]
+#[inline(always)]
 pub fn check_gemm(
     quick: bool,
     ta: Trans,
@@ -166,6 +179,7 @@ pub fn check_gemm(
 }
 
 #[tactic(auto, using(crate::proofs::Ops::passes))]
+#[inline(always)]
 pub fn check_symm(
     quick: bool,
     side: Side,
@@ -186,6 +200,7 @@ pub fn check_symm(
     }
 }
 
+#[inline(always)]
 pub fn check_hemm(
     quick: bool,
     side: Side,
@@ -203,6 +218,7 @@ pub fn check_hemm(
 }
 
 #[tactic(auto, using(crate::proofs::Ops::passes))]
+#[inline(always)]
 pub fn check_syrk(quick: bool, t: Trans, a: View, la: usize, c: View, lc: usize) -> Answer
     requires { quick ≡ quick_syrk t a la c lc }
     ensures { result ≡ specs.syrk_check t a la c lc }
@@ -214,6 +230,7 @@ pub fn check_syrk(quick: bool, t: Trans, a: View, la: usize, c: View, lc: usize)
     }
 }
 
+#[inline(always)]
 pub fn check_herk(quick: bool, t: Trans, a: View, la: usize, c: View, lc: usize) -> Answer
     requires { quick ≡ quick_syrk t a la c lc }
     ensures { result ≡ specs.herk_check t a la c lc }
@@ -222,6 +239,7 @@ pub fn check_herk(quick: bool, t: Trans, a: View, la: usize, c: View, lc: usize)
 }
 
 #[tactic(auto, using(crate::proofs::Ops::passes))]
+#[inline(always)]
 pub fn check_syr2k(
     quick: bool,
     t: Trans,
@@ -242,6 +260,7 @@ pub fn check_syr2k(
     }
 }
 
+#[inline(always)]
 pub fn check_her2k(
     quick: bool,
     t: Trans,
@@ -259,6 +278,7 @@ pub fn check_her2k(
 }
 
 #[tactic(auto, using(crate::proofs::Ops::passes))]
+#[inline(always)]
 pub fn check_trmm(quick: bool, side: Side, a: View, la: usize, b: View, lb: usize) -> Answer
     requires { quick ≡ quick_trmm side a la b lb }
     ensures { result ≡ specs.trmm_check side a la b lb }
@@ -270,6 +290,7 @@ pub fn check_trmm(quick: bool, side: Side, a: View, la: usize, b: View, lb: usiz
     }
 }
 
+#[inline(always)]
 pub fn check_trsm(quick: bool, side: Side, a: View, la: usize, b: View, lb: usize) -> Answer
     requires { quick ≡ quick_trmm side a la b lb }
     ensures { result ≡ specs.trsm_check side a la b lb }

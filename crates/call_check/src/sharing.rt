@@ -47,6 +47,7 @@ fn line_meets(n: usize, stride: usize) -> bool
 
 // Whether k * x = d * y for some k < rows and d < cols that are not both 0.
 #[tactic(auto, using(crate::proofs::Multiples::cases))]
+#[inline(never)]
 fn steps_meet(rows: usize, x: usize, cols: usize, y: usize) -> bool
     requires rows_bound { x ≤ 2 ^ 63 }
     requires cols_bound { y ≤ 2 ^ 63 }
@@ -68,6 +69,7 @@ fn steps_meet(rows: usize, x: usize, cols: usize, y: usize) -> bool
 }
 
 #[tactic(auto, using(crate::proofs::Multiples::overlap_law))]
+#[inline(always)]
 pub fn overlap(v: View) -> bool
     ensures { result ≡ overlaps v }
 {

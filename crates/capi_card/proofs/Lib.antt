@@ -1,3 +1,2 @@
 -- Laws that the proofs of the crate cite.
 mod HandedLaws
-mod Words

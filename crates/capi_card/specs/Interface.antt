@@ -1,9 +1,8 @@
 -- The C functions of cards: the answer's number, what the lent numbers and bytes are afterwards, and what is handed back, on answer 0 alone.
 use Rattle.std.specs.Prelude.{ℕ, ◌*◌, List, ◌≡◌, Float, length}
 use Rattle.view.specs.Refusals.{limit}
-use Rattle.card.specs.declared.CardAnswer.{CardAnswer}
 use Rattle.card.specs.declared.Header.{Header}
-use Rattle.card.specs.Answers.{card_number}
+use Rattle.card.specs.Answers.{CardAnswer, card_number}
 use Rattle.card.specs.Layout.{blocks}
 use Rattle.card.specs.Reading.{changed, header, read_answer, slab_after}
 use Rattle.card.specs.Writing.{buffer_after, write_answer}

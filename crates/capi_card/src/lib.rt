@@ -5,10 +5,13 @@
 ghost use Rattle.std.specs.Prelude.{◌≡◌};
 ghost use Rattle.card.specs.Answers.{card_number};
 ghost use Rattle.card.specs.Reading.{changed};
-ghost use Rattle.card.specs.Writing.{header_for};
+ghost use Rattle.card.specs.Writing.{header_for, writing_of};
 ghost use Rattle.capi_card.specs.Interface.{Reads, Writes};
 
-use card::Writing;
+use card::{Kind, Refusal};
+
+// The answer of a call that is not refused.
+const DONE: u8 = 0;
 
 // Reads a card to the slab's front.
 #[unsafe(no_mangle)]
@@ -21,29 +24,27 @@ pub extern "C" fn zb_card_read(
 ) -> u8
     ensures { Reads card.now slab.old kind.old rows.old cols.old result slab.new kind.new rows.new cols.new }
 {
-    let r = card::read(card, slab);
-    let answer = r.answer;
-    let h = r.header;
-    if card::done(answer) {
-        *kind = h.kind;
-        *rows = h.rows as usize;
-        *cols = h.cols as usize;
-        card::number(answer)
-    } else {
-        card::number(answer)
+    match card::read(card, slab) {
+        Ok(header) => {
+            *kind = header.kind;
+            *rows = usize::from(header.rows);
+            *cols = usize::from(header.cols);
+            DONE
+        }
+        Err(refusal) => u8::from(refusal),
     }
 }
 
 // The answer's number; the card's length is handed back where it is written.
-fn handed(w: Writing, length: &mut usize) -> u8
-    ensures { (result ≡ card_number w.answer) × (length.new ≡ changed w.answer length.old w.length) }
+fn handed(written: Result<usize, Refusal>, length: &mut usize) -> u8
+    ensures { (result ≡ card_number (writing_of written).answer) × (length.new ≡ changed (writing_of written).answer length.old (writing_of written).length) }
 {
-    let answer = w.answer;
-    if card::done(answer) {
-        *length = w.length;
-        card::number(answer)
-    } else {
-        card::number(answer)
+    match written {
+        Ok(n) => {
+            *length = n;
+            DONE
+        }
+        Err(refusal) => u8::from(refusal),
     }
 }
 
@@ -58,7 +59,7 @@ pub extern "C" fn zb_dcard_write(
 ) -> u8
     ensures { Writes (header_for 0 rows cols) slab.now card.old length.old result card.new length.new }
 {
-    handed(card::write_f64(rows, cols, slab, card), length)
+    handed(card::write(Kind::Real, rows, cols, slab, card), length)
 }
 
 // Writes the card of a complex matrix.
@@ -72,5 +73,5 @@ pub extern "C" fn zb_zcard_write(
 ) -> u8
     ensures { Writes (header_for 1 rows cols) slab.now card.old length.old result card.new length.new }
 {
-    handed(card::write_complex(rows, cols, slab, card), length)
+    handed(card::write(Kind::Complex, rows, cols, slab, card), length)
 }

@@ -30,6 +30,9 @@ test-eq {x} {y} h = go (ℕ_discrete x y)
     go (yes p) = p
     go (no n) = absurd (clash (rw (ne_eqb _ _ n)) h)
 
+pub test-ne : {x y : ℕ} → not (eqb x y) ≡ true → x ≡ y → ⊥
+test-ne {x} {y} h e = clash h (rw (eq-eqb _ _ e))
+
 pub no-departure : (f : ℕ → ℕ) (b : List ℕ) → differs f b ≡ false → (j : ℕ) → j < 510 → get_or b j 0 ≡ f j
 unfolding differs
 no-departure f b h j p = test-eq (none-at 510 (λ j. not (eqb (get_or b j 0) (f j))) h j p)
@@ -171,7 +174,7 @@ own-number b known j =
     eight : (j : ℕ) → j % 8 < 8
     eight j = omega arith
 
-pub data-numbers : (b : List ℕ) (k n m z : ℕ) (t : Bool) → m ≡ min 63 n → z ≡ 504 - 8 * m → t ≡ nonzero b (8 * m) z → t ≡ true → true ≡ data_departs k n b
+pub data-numbers : (b : List ℕ) (k n m z : ℕ) (t : Bool) → m ≡ min n 63 → z ≡ 504 - 8 * m → t ≡ nonzero b (8 * m) z → t ≡ true → true ≡ data_departs k n b
 data-numbers b k n m z t e e' p q = found-by _ b (λ g. some-nonzero b (8 * m) z (sym p ∙ q) (λ j h. g (8 * m + j) (less m z j e' h) ∙ data-past k n (pattern b) (8 * m + j) (inside m z j e' h) (beyond n m z j e e' h)))
   where
     less : (m z j : ℕ) → z ≡ 504 - 8 * m → j < z → 8 * m + j < 510
@@ -180,7 +183,7 @@ data-numbers b k n m z t e e' p q = found-by _ b (λ g. some-nonzero b (8 * m) z
     inside : (m z j : ℕ) → z ≡ 504 - 8 * m → j < z → 8 * m + j < 504
     inside m z j e h = omega arith
 
-    beyond : (n m z j : ℕ) → m ≡ min 63 n → z ≡ 504 - 8 * m → j < z → n ≤ (8 * m + j) / 8
+    beyond : (n m z j : ℕ) → m ≡ min n 63 → z ≡ 504 - 8 * m → j < z → n ≤ (8 * m + j) / 8
     beyond n m z j e e' h = omega arith
 
 pub data-index : (b : List ℕ) (k n x : ℕ) → x ≡ half b 504 0 → (x ≡ k → ⊥) → true ≡ data_departs k n b
@@ -189,7 +192,7 @@ data-index b k n x e h = found-by _ b (λ g. h (e ∙ both k (get_or b 504 0) (g
     both : (k x y : ℕ) → x ≡ k % 256 → y ≡ k / 256 → x + 256 * y ≡ k
     both k x y p q = omega arith
 
-data-all : (b : List ℕ) (k n m : ℕ) → Bytes b → m ≡ min 63 n → half b 504 0 ≡ k → ((j : ℕ) → 8 * m ≤ j → j < 504 → get_or b j 0 ≡ 0) → ((j : ℕ) → 506 ≤ j → j < 510 → get_or b j 0 ≡ 0) → (j : ℕ) → j < 510 → get_or b j 0 ≡ data_byte k n (pattern b) j
+data-all : (b : List ℕ) (k n m : ℕ) → Bytes b → m ≡ min n 63 → half b 504 0 ≡ k → ((j : ℕ) → 8 * m ≤ j → j < 504 → get_or b j 0 ≡ 0) → ((j : ℕ) → 506 ≤ j → j < 510 → get_or b j 0 ≡ 0) → (j : ℕ) → j < 510 → get_or b j 0 ≡ data_byte k n (pattern b) j
 data-all b k n m known e p z y j h = front (dec_lt j 504)
   where
     low : (x y : ℕ) → x < 256 → x + 256 * y ≡ k → x ≡ k % 256
@@ -214,7 +217,7 @@ data-all b k n m known e p z y j h = front (dec_lt j 504)
     front (yes l) = number l (dec_lt (j / 8) n)
     front (no u) = tail (omega arith) (ℕ_discrete j 504)
 
-pub data-rest-is : (b : List ℕ) (k n m z x : ℕ) (t : Bool) → Bytes b → m ≡ min 63 n → z ≡ 504 - 8 * m → t ≡ nonzero b (8 * m) z → t ≡ false → x ≡ half b 504 0 → x ≡ k → nonzero b 506 4 ≡ data_departs k n b
+pub data-rest-is : (b : List ℕ) (k n m z x : ℕ) (t : Bool) → Bytes b → m ≡ min n 63 → z ≡ 504 - 8 * m → t ≡ nonzero b (8 * m) z → t ≡ false → x ≡ half b 504 0 → x ≡ k → nonzero b 506 4 ≡ data_departs k n b
 data-rest-is b k n m z x t known e e' p p' q q' = both_ways _ _
     (λ u. sym (found-by _ b (λ g. some-nonzero b 506 4 u (λ j h. g (506 + j) (less j h) ∙ data-rest k n (pattern b) (506 + j) (le j)))))
     (λ u. is_true _ (λ w. clash u (none-departs _ b (data-all b k n m known e (sym q ∙ q') (λ j h l. zero-at b (8 * m) z (sym p ∙ p') j h (within m z j e' h l)) (λ j h l. zero-at b 506 4 w j h (four j h l))))))

@@ -1,23 +1,25 @@
 -- Writing one block: the stores of the code leave the block that the definitions say, whatever stood there.
 use mathlib.Core.Path.{◌≡◌, refl, sym, ap, subst, ◌∙◌}
-use Prim.Native.Nat.{ℕ, zero, suc, ◌+◌, ◌-◌, ◌*◌, ◌/◌, ◌%◌, ◌<◌, ◌≤◌, ◌^◌}
+use Prim.Native.Nat.{ℕ, zero, suc, ◌+◌, ◌-◌, ◌*◌, ◌/◌, ◌%◌, ◌<◌, ◌≤◌}
 use native.Mathlib.Decide.{dec_lt}
-use native.Mathlib.Nat.{le_antisymm, zero-add}
+use native.Mathlib.Nat.{zero-add}
 use native.Mathlib.Omega.{arith}
 use mathlib.Core.List.{List}
-use lib.Ieee.{Float}
-use lib.ListN.{length, get_or}
-use lib.Seq.{ext_get_or}
+use lib.Dec.{ltb}
+use lib.Ieee.{Float, binary64, nan, to_bits}
+use lib.ListN.{length, get_or, take, drop, length-drop}
+use lib.Seq.{ext_get_or, get_or-take, get_or-drop, length-take-le}
 use borrow.Author.Tests.{lt-ltb, le-ltb}
 use borrow.Rule.Slice.PartMut.{mid_len, mid_of, put_mid}
 use Rattle.encoding.specs.Little.{byte_of}
 use Rattle.encoding.specs.Stored.{stored}
-use Rattle.encoding.proofs.StoredLaws.{length-stored, stored-before, stored-in, stored_more, stored-part}
+use Rattle.encoding.proofs.StoredLaws.{length-stored, stored-before, stored-cong, stored-in, stored_more, stored-part}
 use Rattle.card.specs.declared.Header.{Header}
-use Rattle.card.specs.Layout.{total, count, header_byte, data_byte, body_byte, block_byte, card_byte, patterns}
+use Rattle.card.specs.Layout.{choose, index_bytes, blocks, total, count, header_byte, data_byte, body_byte, block_byte, card_byte, patterns}
 use Rattle.card.specs.Reading.{sum_of}
 use Rattle.card.specs.Writing.{number_byte, sealed}
 use Rattle.card.proofs.Sums.{total-cong}
+use Rattle.card.proofs.Counts.{left_some}
 use Rattle.card.proofs.Departs.{data-number, data-past, data-low, data-high, data-rest}
 
 -- ---- the sum
@@ -88,71 +90,42 @@ header-block-is h s a b l p q =
     more : (j : ℕ) → j < 510 → j < 512
     more j h = omega arith
 
--- byte j of block 0, by the number that j is
-pub header_at : (h : Header) (j k x : ℕ) → j ≡ k → x ≡ header_byte h k → x ≡ header_byte h j
-header_at h j k x e p = p ∙ ap (header_byte h) (sym e)
-
--- past the kind every byte is zero
-pub header-else : (h : Header) (j : ℕ) → (j ≡ 0 → ⊥) → (j ≡ 1 → ⊥) → (j ≡ 2 → ⊥) → (j ≡ 3 → ⊥) → (j ≡ 4 → ⊥) → (j ≡ 5 → ⊥) → (j ≡ 6 → ⊥) → (j ≡ 7 → ⊥) → (j ≡ 8 → ⊥) → 0 ≡ header_byte h j
-unfolding header_byte
-header-else h zero n0 n1 n2 n3 n4 n5 n6 n7 n8 = absurd (n0 refl)
-header-else h (suc zero) n0 n1 n2 n3 n4 n5 n6 n7 n8 = absurd (n1 refl)
-header-else h (suc (suc zero)) n0 n1 n2 n3 n4 n5 n6 n7 n8 = absurd (n2 refl)
-header-else h (suc (suc (suc zero))) n0 n1 n2 n3 n4 n5 n6 n7 n8 = absurd (n3 refl)
-header-else h (suc (suc (suc (suc zero)))) n0 n1 n2 n3 n4 n5 n6 n7 n8 = absurd (n4 refl)
-header-else h (suc (suc (suc (suc (suc zero))))) n0 n1 n2 n3 n4 n5 n6 n7 n8 = absurd (n5 refl)
-header-else h (suc (suc (suc (suc (suc (suc zero)))))) n0 n1 n2 n3 n4 n5 n6 n7 n8 = absurd (n6 refl)
-header-else h (suc (suc (suc (suc (suc (suc (suc zero))))))) n0 n1 n2 n3 n4 n5 n6 n7 n8 = absurd (n7 refl)
-header-else h (suc (suc (suc (suc (suc (suc (suc (suc zero)))))))) n0 n1 n2 n3 n4 n5 n6 n7 n8 = absurd (n8 refl)
-header-else h (suc (suc (suc (suc (suc (suc (suc (suc (suc j))))))))) n0 n1 n2 n3 n4 n5 n6 n7 n8 = refl
-
-pub low_byte : (n : ℕ) → n % 256 ≡ byte_of n 0
-unfolding byte_of
-low_byte n = refl
-
-pub high_byte : (n : ℕ) → n < 2 ^ 16 → n / 256 ≡ byte_of n 1
-unfolding byte_of
-high_byte n h = omega arith
-
 -- ---- a data block
 
-module _ (k : ℕ) (slab : List Float) (from n : ℕ) (s : List ℕ) (u : k < 65536) (l : length s ≡ 512) where
+module _ (k : ℕ) (left : List Float) (s : List ℕ) (u : k < 65536) (l : length s ≡ 512) where
   numbered : List ℕ
-  numbered = stored 0 504 (number_byte slab from n) s
+  numbered = stored 0 504 (number_byte left) s
 
   indexed : List ℕ
   indexed = stored 504 6 (byte_of k) numbered
 
   length-indexed : length indexed ≡ 512
   unfolding indexed numbered
-  length-indexed = length-stored 504 6 (byte_of k) numbered ∙ length-stored 0 504 (number_byte slab from n) s ∙ l
-
-  bits : ℕ → ℕ
-  bits i = patterns slab (from + i)
+  length-indexed = length-stored 504 6 (byte_of k) numbered ∙ length-stored 0 504 (number_byte left) s ∙ l
 
   none : (r : ℕ) → byte_of 0 r ≡ 0
   unfolding byte_of
   none zero = refl
   none (suc r) = none r
 
-  number-byte : (j : ℕ) → j < 504 → Dec (j / 8 < n) → number_byte slab from n j ≡ data_byte k n bits j
-  unfolding number_byte bits
-  number-byte j h (yes p) = rw (lt-ltb (j / 8) n p) (sym (data-number k n bits j h p))
-  number-byte j h (no p) = rw (le-ltb (j / 8) n (omega arith)) (none (j % 8) ∙ sym (data-past k n bits j h (omega arith)))
+  number-byte : (j : ℕ) → j < 504 → Dec (j / 8 < length left) → number_byte left j ≡ data_byte k (length left) (patterns left) j
+  unfolding number_byte
+  number-byte j h (yes p) = rw (lt-ltb (j / 8) (length left) p) (sym (data-number k (length left) (patterns left) j h p))
+  number-byte j h (no p) = rw (le-ltb (j / 8) (length left) (omega arith)) (none (j % 8) ∙ sym (data-past k (length left) (patterns left) j h (omega arith)))
 
-  index-byte : (r : ℕ) → r < 6 → byte_of k r ≡ data_byte k n bits (504 + r)
+  index-byte : (r : ℕ) → r < 6 → byte_of k r ≡ data_byte k (length left) (patterns left) (504 + r)
   unfolding byte_of
-  index-byte zero h = sym (data-low k n bits)
-  index-byte (suc zero) h = high k u ∙ sym (data-high k n bits)
+  index-byte zero h = sym (data-low k (length left) (patterns left))
+  index-byte (suc zero) h = high k u ∙ sym (data-high k (length left) (patterns left))
     where
       high : (k : ℕ) → k < 65536 → k / 256 % 256 ≡ k / 256
       high k u = omega arith
-  index-byte (suc (suc r)) h = ap (λ (x : ℕ). byte_of x r) (gone k u) ∙ none r ∙ sym (data-rest k n bits (504 + suc (suc r)) (omega arith))
+  index-byte (suc (suc r)) h = ap (λ (x : ℕ). byte_of x r) (gone k u) ∙ none r ∙ sym (data-rest k (length left) (patterns left) (504 + suc (suc r)) (omega arith))
     where
       gone : (k : ℕ) → k < 65536 → k / 256 / 256 ≡ 0
       gone k u = omega arith
 
-  data-body : (j : ℕ) → j < 510 → get_or indexed j 0 ≡ data_byte k n bits j
+  data-body : (j : ℕ) → j < 510 → get_or indexed j 0 ≡ data_byte k (length left) (patterns left) j
   unfolding indexed numbered
   data-body j h = go (dec_lt j 504)
     where
@@ -165,19 +138,19 @@ module _ (k : ℕ) (slab : List Float) (from n : ℕ) (s : List ℕ) (u : k < 65
       inside : (r m : ℕ) → r < 6 → m ≡ 512 → 504 + r < m
       inside r m p e = omega arith
 
-      last : (r : ℕ) → r < 6 → get_or indexed (504 + r) 0 ≡ data_byte k n bits (504 + r)
-      last r p = stored-in 504 6 (byte_of k) numbered r 0 p (inside r (length numbered) p (length-stored 0 504 (number_byte slab from n) s ∙ l)) ∙ index-byte r p
+      last : (r : ℕ) → r < 6 → get_or indexed (504 + r) 0 ≡ data_byte k (length left) (patterns left) (504 + r)
+      last r p = stored-in 504 6 (byte_of k) numbered r 0 p (inside r (length numbered) p (length-stored 0 504 (number_byte left) s ∙ l)) ∙ index-byte r p
 
-      go : Dec (j < 504) → get_or indexed j 0 ≡ data_byte k n bits j
-      go (yes p) = stored-before 504 6 (byte_of k) numbered j 0 p ∙ front_of 504 (number_byte slab from n) s j l p (omega arith) ∙ number-byte j p (dec_lt (j / 8) n)
-      go (no p) = subst (λ (i : ℕ). get_or indexed i 0 ≡ data_byte k n bits i) (back j p) (last (j - 504) (six j h p))
+      go : Dec (j < 504) → get_or indexed j 0 ≡ data_byte k (length left) (patterns left) j
+      go (yes p) = stored-before 504 6 (byte_of k) numbered j 0 p ∙ front_of 504 (number_byte left) s j l p (omega arith) ∙ number-byte j p (dec_lt (j / 8) (length left))
+      go (no p) = subst (λ (i : ℕ). get_or indexed i 0 ≡ data_byte k (length left) (patterns left) i) (back j p) (last (j - 504) (six j h p))
 
-pub data-block-is : (k : ℕ) (slab : List Float) (from n : ℕ) (s a b c : List ℕ) → k < 65536 → length s ≡ 512
-    → a ≡ stored 0 504 (number_byte slab from n) s → b ≡ stored 504 6 (byte_of k) a → c ≡ sealed b
-    → c ≡ stored 0 512 (block_byte (data_byte k n (λ i. patterns slab (from + i)))) s
-unfolding bits indexed numbered
-data-block-is k slab from n s a b c u l p q r =
-    seal-is (data_byte k n (bits k slab from n s u l)) s (indexed k slab from n s u l) c l (length-indexed k slab from n s u l) (data-body k slab from n s u l)
+pub data-block-is : (k : ℕ) (left : List Float) (s a b c : List ℕ) → k < 65536 → length s ≡ 512
+    → a ≡ stored 0 504 (number_byte left) s → b ≡ stored 504 6 (byte_of k) a → c ≡ sealed b
+    → c ≡ stored 0 512 (block_byte (data_byte k (length left) (patterns left))) s
+unfolding indexed numbered
+data-block-is k left s a b c u l p q r =
+    seal-is (data_byte k (length left) (patterns left)) s (indexed k left s u l) c l (length-indexed k left s u l) (data-body k left s u l)
     (r ∙ ap sealed (q ∙ (λ i. stored 504 6 (byte_of k) (p i))))
 
 -- ---- a block of a card
@@ -186,21 +159,55 @@ pub block-first : (h : Header) (bits : ℕ → ℕ) (s t : List ℕ) (k : ℕ) �
 unfolding body_byte
 block-first h bits s t k z e = e ∙ (λ i. stored 0 512 (block_byte (body_byte h (sym z i) bits)) s)
 
-whole : (k : ℕ) → (k ≡ 0 → ⊥) → k ≡ suc (k - 1)
-whole k z = omega arith
+block-cong : (f g : ℕ → ℕ) → ((j : ℕ) → j < 510 → f j ≡ g j) → (j : ℕ) → block_byte f j ≡ block_byte g j
+unfolding block_byte
+block-cong f g h j = go (dec_lt j 510)
+  where
+    go : Dec (j < 510) → block_byte f j ≡ block_byte g j
+    go (yes p) = block-front f j p ∙ h j p ∙ sym (block-front g j p)
+    go (no n) = rw (le-ltb j 510 (omega arith)) (ap (λ (t : ℕ). byte_of (t % 65536) (j - 510)) (total-cong 510 f g h))
 
-later-body : (h : Header) (d x : ℕ) (bits : ℕ → ℕ) → x ≡ count h - 63 * d → data_byte (suc d) x bits ≡ body_byte h (suc d) bits
+data-cong : (k n : ℕ) (f g : ℕ → ℕ) → ((i : ℕ) → i < n → f i ≡ g i) → (j : ℕ) → data_byte k n f j ≡ data_byte k n g j
+unfolding data_byte
+data-cong k n f g h j = number (dec_lt (j / 8) n)
+  where
+    number : Dec (j / 8 < n) → data_byte k n f j ≡ data_byte k n g j
+    number (yes p) = ap (λ (x : ℕ). choose (ltb j 504) (choose (ltb (j / 8) n) (byte_of x (j % 8)) 0) (get_or (index_bytes k) (j - 504) 0)) (h (j / 8) p)
+    number (no p) = rw (le-ltb (j / 8) n (omega arith))
+
+-- what a part of the slab has are numbers of the slab
+part-number : (slab : List Float) (from n i : ℕ) → i < n → patterns (take n (drop from slab)) i ≡ patterns slab (from + i)
+unfolding patterns
+part-number slab from n i h = ap (to_bits binary64) (get_or-take n (drop from slab) i nan h ∙ get_or-drop from slab i nan)
+
+part-length : (slab : List Float) (from n : ℕ) → from + n ≤ length slab → length (take n (drop from slab)) ≡ n
+part-length slab from n h = length-take-le n (drop from slab) (rw (length-drop from slab) (omega arith))
+
+later-byte : (h : Header) (slab : List Float) (d : ℕ) → 63 * d + (count h - 63 * d) ≤ length slab → (left : List Float) → left ≡ take (count h - 63 * d) (drop (63 * d) slab)
+    → (j : ℕ) → data_byte (suc d) (length left) (patterns left) j ≡ body_byte h (suc d) (λ i. patterns slab (63 * d + i)) j
 unfolding body_byte
-later-body h d x bits e = λ i j. data_byte (suc d) (e i) bits j
+later-byte h slab d l left e j =
+    (λ i. data_byte (suc d) (length (e i)) (patterns (e i)) j)
+    ∙ ap (λ (n : ℕ). data_byte (suc d) n (patterns (take (count h - 63 * d) (drop (63 * d) slab))) j) (part-length slab (63 * d) (count h - 63 * d) l)
+    ∙ data-cong (suc d) (count h - 63 * d) _ _ (λ i p. part-number slab (63 * d) (count h - 63 * d) i p) j
 
-pub block-later : (h : Header) (slab : List Float) (s t : List ℕ) (k a from n x : ℕ) → (k ≡ 0 → ⊥) → n ≡ count h
-    → t ≡ stored 0 512 (block_byte (data_byte a x (λ i. patterns slab (from + i)))) s → a ≡ k → from ≡ 63 * (k - 1) → x ≡ n - 63 * (k - 1)
+-- data block k has what is left for it
+pub block-later : (h : Header) (slab left : List Float) (s t : List ℕ) (k n : ℕ) → (k ≡ 0 → ⊥) → k < blocks h → n ≡ count h → count h ≤ length slab
+    → left ≡ take (n - 63 * (k - 1)) (drop (63 * (k - 1)) slab) → t ≡ stored 0 512 (block_byte (data_byte k (length left) (patterns left))) s
     → t ≡ stored 0 512 (block_byte (body_byte h k (λ i. patterns slab (63 * (k - 1) + i)))) s
-block-later h slab s t k a from n x z p e f g q =
-    e
-    ∙ (λ i. stored 0 512 (block_byte (data_byte ((f ∙ whole k z) i) x (λ r. patterns slab (g i + r)))) s)
-    ∙ (λ i. stored 0 512 (block_byte (later-body h (k - 1) x (λ r. patterns slab (63 * (k - 1) + r)) (q ∙ ap (λ (y : ℕ). y - 63 * (k - 1)) p) i)) s)
-    ∙ (λ i. stored 0 512 (block_byte (body_byte h (sym (whole k z) i) (λ r. patterns slab (63 * (k - 1) + r)))) s)
+block-later h slab left s t k n z p e l q r = r ∙ stored-cong 0 512 _ _ s (λ j _. block-cong _ _ (λ i _. same i) j)
+  where
+    whole : suc (k - 1) ≡ k
+    whole = omega arith
+
+    fits : 63 * (k - 1) + (count h - 63 * (k - 1)) ≤ length slab
+    fits = omega (arith, left_some h k z p)
+
+    same : (i : ℕ) → data_byte k (length left) (patterns left) i ≡ body_byte h k (λ i. patterns slab (63 * (k - 1) + i)) i
+    same i =
+        (λ x. data_byte (sym whole x) (length left) (patterns left) i)
+        ∙ later-byte h slab (k - 1) fits left (q ∙ ap (λ (m : ℕ). take (m - 63 * (k - 1)) (drop (63 * (k - 1)) slab)) e) i
+        ∙ (λ x. body_byte h (whole x) (λ i. patterns slab (63 * (k - 1) + i)) i)
 
 -- ---- the card, block after block
 
@@ -242,6 +249,3 @@ part_length k s h = mid_len (512 * k) (512 * k + 512) s h ∙ size k
   where
     size : (k : ℕ) → 512 * k + 512 - 512 * k ≡ 512
     size k = omega arith
-
-pub card-all : (h : Header) (bits : ℕ → ℕ) (n m k : ℕ) (s t : List ℕ) → t ≡ stored 0 (512 * k) (card_byte h bits) s → k ≤ n → n ≤ k → n ≡ m → t ≡ stored 0 (512 * m) (card_byte h bits) s
-card-all h bits n m k s t e p q r = e ∙ ap (λ (x : ℕ). stored 0 (512 * x) (card_byte h bits) s) (le_antisymm p q ∙ r)

@@ -1,7 +1,5 @@
 -- Lemmas that several proofs of the crate cite; other crates cite those that are public.
-mod Words
 mod Counts
-mod JudgeLaws
 mod ScanLaws
 pub mod Sums
 pub mod BlockLaws

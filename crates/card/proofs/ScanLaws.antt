@@ -1,8 +1,7 @@
 -- The scan: what one block adds, and that the scan of a whole file is what the definitions say of it.
 use mathlib.Core.Path.{◌≡◌, refl, sym, ap, ◌∙◌}
 use mathlib.Core.Bool.{Bool, not, ◌||◌}
-use Prim.Native.Nat.{ℕ, zero, suc, ◌+◌, ◌-◌, ◌*◌, ◌/◌, ◌%◌, ◌≤◌}
-use native.Mathlib.Nat.{le_antisymm}
+use Prim.Native.Nat.{ℕ, zero, suc, ◌+◌, ◌-◌, ◌*◌, ◌/◌, ◌%◌}
 use native.Mathlib.Numerals.{add-one}
 use native.Mathlib.Omega.{arith}
 use mathlib.Core.List.{List, [], ◌∷◌}
@@ -14,47 +13,17 @@ use Rattle.view.specs.Any.{any}
 use Rattle.encoding.specs.Little.{little}
 use Rattle.card.specs.declared.Header.{Header}
 use Rattle.card.specs.declared.Scan.{Scan}
-use Rattle.card.specs.declared.CardAnswer.TheVariants.{Done, TooLarge, TooShort, Torn, Wrong}
-use Rattle.card.specs.Answers.{oversize}
+use Rattle.card.specs.Answers.{Done, TooLarge, TooShort, Torn, Wrong, oversize}
 use Rattle.card.specs.Layout.{choose, count, blocks}
 use Rattle.card.specs.Reading.{header_of, torn_block, departs, block, header, torn, wrong, read_answer}
-use Rattle.card.specs.Scanning.{begun, heading, scanned, scan_of, scan_wrong, scan_answer}
-
--- ---- one block
-
-pub step-first : (s : Scan) (b : List ℕ) (t u d w : Bool) (h : Header) → s.blocks ≡ 0 → t ≡ torn_block b → u ≡ t || s.torn → d ≡ departs (header_of b) 0 b → w ≡ d || s.wrong → h ≡ header_of b
-    → record { blocks = 1; torn = u; wrong = w; header = h } ≡ scanned s b
-unfolding scanned heading
-step-first s b t u d w h z p q r v e =
-    (λ i. record { blocks = 1; torn = (q ∙ ap (λ (x : Bool). x || s.torn) p) i; wrong = (v ∙ ap (λ (x : Bool). x || s.wrong) r) i; header = e i })
-    ∙ (λ i. record { blocks = sym z i + 1; torn = torn_block b || s.torn; wrong = departs (heading (sym z i) s.header b) (sym z i) b || s.wrong; header = heading (sym z i) s.header b })
-
-whole : (k : ℕ) → (k ≡ 0 → ⊥) → suc (k - 1) ≡ k
-whole k z = omega arith
-
-kept : (k : ℕ) (h : Header) (b : List ℕ) → (k ≡ 0 → ⊥) → h ≡ heading k h b
-unfolding heading
-kept zero h b z = absurd (z refl)
-kept (suc k) h b z = refl
-
-pub step-later : (s : Scan) (b : List ℕ) (t u d w : Bool) → (s.blocks ≡ 0 → ⊥) → t ≡ torn_block b → u ≡ t || s.torn → d ≡ departs s.header (suc (s.blocks - 1)) b → w ≡ d || s.wrong
-    → record { blocks = s.blocks + 1; torn = u; wrong = w; header = s.header } ≡ scanned s b
-unfolding scanned
-step-later s b t u d w z p q r v =
-    let e : s.header ≡ heading s.blocks s.header b = kept s.blocks s.header b z in
-    let f : d ≡ departs (heading s.blocks s.header b) s.blocks b = r ∙ (λ i. departs (e i) (whole s.blocks z i) b) in
-    λ i. record { blocks = s.blocks + 1; torn = (q ∙ ap (λ (x : Bool). x || s.torn) p) i; wrong = (v ∙ ap (λ (x : Bool). x || s.wrong) f) i; header = e i }
+use Rattle.card.specs.Scanning.{heading, scanned, scan_of, scan_wrong, scan_answer}
 
 -- ---- the blocks of a file, one after the other
 
-pub scan-blocks : (file : List ℕ) (n : ℕ) → (scan_of file n).blocks ≡ n
+pub scan_blocks : (file : List ℕ) (n : ℕ) → (scan_of file n).blocks ≡ n
 unfolding scan_of scanned
-scan-blocks file zero = refl
-scan-blocks file (suc n) = add-one (scan_of file n).blocks ∙ ap suc (scan-blocks file n)
-
-pub scan-none : (file : List ℕ) → begun ≡ scan_of file 0
-unfolding scan_of
-scan-none file = refl
+scan_blocks file zero = refl
+scan_blocks file (suc n) = add-one (scan_of file n).blocks ∙ ap suc (scan_blocks file n)
 
 -- the part of a file that the code lends as block k
 pub part-is : (file : List ℕ) (k : ℕ) → take (512 * k + 512 - 512 * k) (drop (512 * k) file) ≡ block file k
@@ -67,9 +36,6 @@ part-is file k = ap (λ (n : ℕ). take n (drop (512 * k) file)) (size k)
 pub scan-next : (file : List ℕ) (k : ℕ) (s t : Scan) (b : List ℕ) → s ≡ scan_of file k → b ≡ block file k → t ≡ scanned s b → t ≡ scan_of file (k + 1)
 unfolding scan_of
 scan-next file k s t b p q r = r ∙ (λ i. scanned (p i) (q i)) ∙ ap (scan_of file) (sym (add-one k))
-
-pub scan-all : (file : List ℕ) (n k : ℕ) (s : Scan) → s ≡ scan_of file k → k ≤ n → n ≤ k → s ≡ scan_of file n
-scan-all file n k s e p q = e ∙ ap (scan_of file) (le_antisymm p q)
 
 scan-torn : (file : List ℕ) (n : ℕ) → (scan_of file n).torn ≡ any n (λ k. torn_block (block file k))
 unfolding scan_of scanned any
@@ -84,7 +50,7 @@ heading-is : (file : List ℕ) (n : ℕ) → heading (scan_of file n).blocks (sc
 unfolding scan_of scanned heading
 heading-is file zero = refl
 heading-is file (suc n) =
-    ap (λ (k : ℕ). heading k (scan_of file (suc n)).header (block file (suc n))) (scan-blocks file (suc n))
+    ap (λ (k : ℕ). heading k (scan_of file (suc n)).header (block file (suc n))) (scan_blocks file (suc n))
     ∙ heading-suc n (scan_of file (suc n)).header (block file (suc n))
     ∙ heading-is file n
 
@@ -95,7 +61,7 @@ scan-header file n = heading-is file n
 scan-wrong : (file : List ℕ) (n : ℕ) → (scan_of file n).wrong ≡ any n (λ k. departs (header file) k (block file k))
 unfolding scan_of scanned any
 scan-wrong file zero = refl
-scan-wrong file (suc n) = λ i. departs (heading-is file n i) (scan-blocks file n i) (block file n) || scan-wrong file n i
+scan-wrong file (suc n) = λ i. departs (heading-is file n i) (scan_blocks file n i) (block file n) || scan-wrong file n i
 
 -- ---- the answer
 
@@ -119,6 +85,6 @@ scan-answers limit file room = go (ℕ_discrete (length file % 512) 0)
         let n = length file / 512 in
         let h : (scan_of file n).header ≡ header file = whole-header file n refl e in
         λ i. choose (not (eqb (length file % 512) 0) || scan-torn file n i) Torn
-        (choose (ltb 1 (h i).kind || not (eqb (scan-blocks file n i) (blocks (h i))) || scan-wrong file n i) Wrong
+        (choose (ltb 1 (h i).kind || not (eqb (scan_blocks file n i) (blocks (h i))) || scan-wrong file n i) Wrong
         (choose (oversize limit (h i)) TooLarge
         (choose (ltb room (count (h i))) TooShort Done)))

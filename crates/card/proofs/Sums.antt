@@ -1,8 +1,7 @@
 -- Laws of `total` and `list_of`. Assumes nothing.
-use mathlib.Core.Path.{◌≡◌, refl, sym, ap, ◌∙◌}
-use Prim.Native.Nat.{ℕ, zero, suc, ◌+◌, ◌<◌, ◌≤◌}
-use native.Mathlib.Nat.{le_antisymm, not-suc-le-zero, le_of_suc-le-suc}
-use native.Mathlib.Numerals.{add-one}
+use mathlib.Core.Path.{◌≡◌, refl, ap}
+use Prim.Native.Nat.{ℕ, zero, suc, ◌+◌, ◌<◌}
+use native.Mathlib.Nat.{not-suc-le-zero, le_of_suc-le-suc}
 use native.Mathlib.Omega.{arith}
 use lib.ListN.{length, get_or}
 use Rattle.card.specs.Layout.{total, list_of}
@@ -12,17 +11,6 @@ up j m h = omega arith
 
 top : (m : ℕ) → m < suc m
 top m = omega arith
-
-pub total-none : (f : ℕ → ℕ) → 0 ≡ total 0 f
-unfolding total
-total-none f = refl
-
-pub total-next : (n : ℕ) (f : ℕ → ℕ) (t v : ℕ) → t ≡ total n f → v ≡ f n → t + v ≡ total (n + 1) f
-unfolding total
-total-next n f t v p q = (λ i. p i + q i) ∙ ap (λ (k : ℕ). total k f) (sym (add-one n))
-
-pub total-all : (n j : ℕ) (f : ℕ → ℕ) (t : ℕ) → t ≡ total j f → j ≤ n → n ≤ j → t ≡ total n f
-total-all n j f t e p q = e ∙ ap (λ (k : ℕ). total k f) (le_antisymm p q)
 
 pub total-cong : (n : ℕ) (f g : ℕ → ℕ) → ((j : ℕ) → j < n → f j ≡ g j) → total n f ≡ total n g
 unfolding total

@@ -1,16 +1,14 @@
 -- What reading a card answers, hands back and leaves, for every file and slab, by the limit of refusal 1. Assumes nothing.
-use Rattle.std.specs.Prelude.{ℕ, ◌+◌, ◌*◌, ◌/◌, ◌%◌, ◌<◌, Bool, not, ◌||◌, List, eqb, ltb, Float, length, get_or, take, drop}
+use Rattle.std.specs.Prelude.{Result, Ok, Err, ℕ, ◌+◌, ◌*◌, ◌/◌, ◌%◌, ◌<◌, Bool, not, ◌||◌, List, eqb, ltb, Float, length, get_or, take, drop}
 use Rattle.std.specs.Float.{binary64}
 use Rattle.std.specs.Float.Ieee.{of_bits}
 use Rattle.view.specs.Any.{any}
 use Rattle.encoding.specs.Little.{little}
 use Rattle.encoding.specs.Stored.{stored}
 use Rattle.card.specs.declared.Header.{Header}
-use Rattle.card.specs.declared.Reading.{Reading}
-use Rattle.card.specs.declared.CardAnswer.{CardAnswer}
-use Rattle.card.specs.declared.CardAnswer.TheVariants.{Done, TooLarge, TooShort, Torn, Wrong}
+use Rattle.card.specs.declared.Refusal.{Refusal}
 use Rattle.card.specs.Layout.{choose, total, count, blocks, body_byte}
-use Rattle.card.specs.Answers.{oversize}
+use Rattle.card.specs.Answers.{CardAnswer, Done, TooLarge, TooShort, Torn, Wrong, refused, oversize}
 
 -- every element of a list is a byte: so it is of what code is lent
 abbrev pub Bytes : List ℕ → Type 0
@@ -74,6 +72,16 @@ wrong file =
     || any (length file / 512) (λ k. departs (header file) k (block file k))
 
 -- ---- the call
+
+-- what reading answers, with the header that it hands back
+pub record Reading : Type 0 where
+  pub answer : CardAnswer
+  pub header : Header
+
+-- what a call returns, read as that: a refusal hands back zeros
+abbrev pub reading_of : Result Header Refusal → Reading
+reading_of (Ok h) = record { answer = Done; header = h }
+reading_of (Err e) = record { answer = refused e; header = record { kind = 0; rows = 0; cols = 0 } }
 
 -- torn before wrong before oversize before a slab that is too short
 unfoldable pub read_answer : ℕ → List ℕ → ℕ → CardAnswer

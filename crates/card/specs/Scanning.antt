@@ -3,10 +3,8 @@ use Rattle.std.specs.Prelude.{ℕ, zero, suc, ◌+◌, Bool, false, not, ◌||�
 use Rattle.view.specs.Any.{any}
 use Rattle.card.specs.declared.Header.{Header}
 use Rattle.card.specs.declared.Scan.{Scan}
-use Rattle.card.specs.declared.CardAnswer.{CardAnswer}
-use Rattle.card.specs.declared.CardAnswer.TheVariants.{Done, TooLarge, TooShort, Torn, Wrong}
 use Rattle.card.specs.Layout.{choose, count, blocks, data_byte}
-use Rattle.card.specs.Answers.{oversize}
+use Rattle.card.specs.Answers.{CardAnswer, Done, TooLarge, TooShort, Torn, Wrong, oversize}
 use Rattle.card.specs.Reading.{header_of, torn_block, departs, differs, pattern, block}
 
 -- nothing gone over

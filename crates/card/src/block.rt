@@ -3,28 +3,29 @@ ghost use Rattle.std.specs.Prelude.{◌≡◌, ◌+◌, ◌-◌, ◌*◌, ◌≤
 ghost use Rattle.card.specs.Reading.{sum_of, torn_block, header_of, pattern, departs};
 ghost use Rattle.card.specs.Scanning.{nonzero, data_departs};
 
-use crate::{Header, count};
-use encoding::little::{byte, double_at, u16_at, wide};
+use crate::Header;
+use encoding::little::{byte, double_at, u16_at};
 
 // The sum of bytes 0 to 509.
+#[tactic(auto, unfolding(crate::specs::Layout::total))]
 pub fn sum(b: &[u8]) -> u64
     ensures { result ≡ sum_of b.now }
 {
     let mut t = 0;
-    let mut j = 0;
-    while j < 510 {
-        t += wide(byte(b, j));
-        j += 1;
+    for j in 0..510 {
+        t += u64::from(byte(b, j));
     }
     t
 }
 
+#[tactic(auto, unfolding(crate::specs::Reading::torn_block, encoding::specs::Little::little))]
 pub fn torn_block(b: &[u8]) -> bool
     ensures { result ≡ torn_block b.now }
 {
-    u16_at(b, 510) as u64 != sum(b) % 65536
+    u64::from(u16_at(b, 510)) != sum(b) % 65536
 }
 
+#[tactic(auto, unfolding(crate::specs::Reading::header_of, encoding::specs::Little::little))]
 pub fn header_of(b: &[u8]) -> Header
     ensures { result ≡ header_of b.now }
 {
@@ -36,6 +37,7 @@ pub fn header_of(b: &[u8]) -> Header
 }
 
 // The pattern of number i of a data block.
+#[tactic(auto, unfolding(crate::specs::Reading::pattern, encoding::specs::Little::little))]
 pub fn pattern(b: &[u8], i: usize) -> u64
     requires { i < 63 }
     ensures { result ≡ pattern b.now i }
@@ -44,65 +46,43 @@ pub fn pattern(b: &[u8], i: usize) -> u64
 }
 
 // Whether one of the n bytes from `from` on is not zero.
+#[tactic(auto, unfolding(crate::specs::Scanning::nonzero, view::specs::Any::any))]
 fn nonzero(b: &[u8], from: usize, n: usize) -> bool
     requires { from + n ≤ 512 }
     ensures { result ≡ nonzero b.now from n }
 {
-    let mut j = 0;
-    while j < n {
+    for j in 0..n {
         if byte(b, from + j) != 0 {
             return true;
         }
-        j += 1;
     }
     false
 }
 
 // Whether block 0 departs from its own header's.
-pub fn header_departs(b: &[u8]) -> bool
+fn header_departs(b: &[u8]) -> bool
     ensures { result ≡ departs (header_of b.now) 0 b.now }
 {
-    if u16_at(b, 0) != 0x5241 {
-        return true;
-    }
-    if u16_at(b, 2) != 0x4d4d {
-        return true;
-    }
-    nonzero(b, 9, 501)
-}
-
-// How many of n numbers are left after d data blocks.
-fn left(n: usize, d: usize) -> usize
-    ensures { result ≡ n - 63 * d }
-{
-    if d <= n / 63 { n - 63 * d } else { 0 }
-}
-
-// How many of n numbers stand in the next block.
-fn here(n: usize) -> usize
-    ensures { result ≡ min 63 n }
-{
-    if n < 63 { n } else { 63 }
+    u16_at(b, 0) != 0x5241 || u16_at(b, 2) != 0x4d4d || nonzero(b, 9, 501)
 }
 
 // Whether data block k departs from one for which n numbers are left.
 fn data_departs(b: &[u8], k: usize, n: usize) -> bool
     ensures { result ≡ data_departs k n b.now }
 {
-    let end = 8 * here(n);
-    if nonzero(b, end, 504 - end) {
-        return true;
-    }
-    if u16_at(b, 504) as usize != k {
-        return true;
-    }
-    nonzero(b, 506, 4)
+    let end = 8 * n.min(63);
+    nonzero(b, end, 504 - end) || usize::from(u16_at(b, 504)) != k || nonzero(b, 506, 4)
 }
 
-// Whether block d + 1 departs from that of a card with header h.
-pub fn later_departs(h: Header, d: usize, b: &[u8]) -> bool
-    requires { d + 1 < 2 ^ 64 }
-    ensures { result ≡ departs h (suc d) b.now }
+// Whether block k departs from that of a card with header h, which is block 0's own.
+#[tactic(auto, unfolding(crate::specs::Layout::body_byte))]
+pub fn departs(h: Header, k: usize, b: &[u8]) -> bool
+    requires { k ≡ 0 → h ≡ header_of b.now }
+    ensures { result ≡ departs h k b.now }
 {
-    data_departs(b, d + 1, left(count(h), d))
+    if k == 0 {
+        header_departs(b)
+    } else {
+        data_departs(b, k, h.count().saturating_sub((k - 1).saturating_mul(63)))
+    }
 }

@@ -4,10 +4,10 @@ ghost use Rattle.encoding.specs.Stored.{stored};
 ghost use Rattle.card.specs.Layout.{block_byte, blocks, body_byte, count, data_byte, header_byte, patterns};
 ghost use Rattle.card.specs.Writing.{number_byte, sealed, word_of};
 
+use crate::Header;
 use crate::block::sum;
-use crate::{Header, count};
 use encoding::bits::bits_of;
-use encoding::little::put;
+use encoding::little::{byte, put};
 
 // Stores the sum of bytes 0 to 509.
 fn seal(b: &mut [u8])
@@ -18,75 +18,50 @@ fn seal(b: &mut [u8])
     put(b, 510, 2, t % 65536);
 }
 
-// Byte j of block 0, before its sum.
-fn header_byte(h: Header, j: usize) -> u8
-    ensures { result ≡ header_byte h j }
-{
-    match j {
-        0 => 65,
-        1 => 82,
-        2 => 77,
-        3 => 77,
-        4 => (h.rows % 256) as u8,
-        5 => (h.rows / 256) as u8,
-        6 => (h.cols % 256) as u8,
-        7 => (h.cols / 256) as u8,
-        8 => h.kind,
-        _ => 0,
-    }
-}
-
-fn header_bytes(h: Header, b: &mut [u8])
-    requires { length b.old ≡ 512 }
-    ensures { b.new ≡ stored 0 510 (header_byte h) b.old }
-{
-    let mut j = 0;
-    while j < 510 {
-        b[j] = header_byte(h, j);
-        j += 1;
-    }
-}
-
 // Block 0.
+#[tactic(auto, unfolding(encoding::specs::Stored::stored, crate::specs::Layout::header_byte))]
 fn header_block(h: Header, b: &mut [u8])
     requires { length b.old ≡ 512 }
     ensures { b.new ≡ stored 0 512 (block_byte (header_byte h)) b.old }
 {
-    header_bytes(h, b);
+    let bytes = h.bytes();
+    for j in 0..510 {
+        b[j] = byte(&bytes, j);
+    }
     seal(b);
 }
 
-// The pattern of number i of a block for which the numbers of the slab from `from` on are left, n in all; past them zero.
-fn word(slab: &[f64], from: usize, n: usize, i: usize) -> u64
-    requires { from + n ≤ length slab.now }
-    ensures { result ≡ word_of slab.now from n i }
+// The pattern of number i of a block for which the numbers `left` are left; past them zero.
+#[tactic(auto, unfolding(crate::specs::Layout::patterns))]
+fn word(left: &[f64], i: usize) -> u64
+    ensures { result ≡ word_of left.now i }
 {
-    if i < n { bits_of(slab[from + i]) } else { 0 }
+    if i < left.len() { bits_of(left[i]) } else { 0 }
 }
 
 // The numbers of such a block.
-fn numbers(slab: &[f64], from: usize, n: usize, b: &mut [u8])
-    requires { (from + n ≤ length slab.now) × (length b.old ≡ 512) }
-    ensures { b.new ≡ stored 0 504 (number_byte slab.now from n) b.old }
+#[tactic(auto, unfolding(encoding::specs::Stored::stored))]
+fn numbers(left: &[f64], b: &mut [u8])
+    requires { length b.old ≡ 512 }
+    ensures { b.new ≡ stored 0 504 (number_byte left.now) b.old }
 {
-    let mut i = 0;
-    while i < 63 {
-        put(b, 8 * i, 8, word(slab, from, n, i));
-        i += 1;
+    for i in 0..63 {
+        put(b, 8 * i, 8, word(left, i));
     }
 }
 
-// Data block k, for which the numbers of the slab from `from` on are left, n in all.
-fn data_block(k: usize, slab: &[f64], from: usize, n: usize, b: &mut [u8])
-    requires { (from + n ≤ length slab.now) × (k < 65536) × (length b.old ≡ 512) }
-    ensures { b.new ≡ stored 0 512 (block_byte (data_byte k n (λ i. patterns slab.now (from + i)))) b.old }
+// Data block k, for which the numbers `left` are left.
+fn data_block(k: usize, left: &[f64], b: &mut [u8])
+    requires { (k < 65536) × (length b.old ≡ 512) }
+    ensures { b.new ≡ stored 0 512 (block_byte (data_byte k (length left.now) (patterns left.now))) b.old }
 {
-    numbers(slab, from, n, b);
+    numbers(left, b);
     put(b, 504, 6, k as u64);
     seal(b);
 }
 
 // Block k of the card of the matrix at the slab's front.
+#[tactic(auto, using(crate::proofs::Counts::left_some))]
 pub fn block(h: Header, k: usize, slab: &[f64], b: &mut [u8])
     requires { (count h ≤ length slab.now) × (k < blocks h) × (blocks h ≤ 65536) × (length b.old ≡ 512) }
     ensures { b.new ≡ stored 0 512 (block_byte (body_byte h k (λ i. patterns slab.now (63 * (k - 1) + i)))) b.old }
@@ -94,7 +69,6 @@ pub fn block(h: Header, k: usize, slab: &[f64], b: &mut [u8])
     if k == 0 {
         header_block(h, b);
     } else {
-        let d = k - 1;
-        data_block(k, slab, 63 * d, count(h) - 63 * d, b);
+        data_block(k, &slab[63 * (k - 1)..h.count()], b);
     }
 }

@@ -18,9 +18,7 @@ use Rattle.encoding.specs.Stored.{stored}
 use Rattle.encoding.proofs.LittleLaws.{little-lt}
 use Rattle.encoding.proofs.StoredLaws.{length-stored, stored-after, stored-cong, stored-in}
 use Rattle.card.specs.declared.Header.{Header}
-use Rattle.card.specs.declared.CardAnswer.{CardAnswer}
-use Rattle.card.specs.declared.CardAnswer.TheVariants.{Done, TooLarge, TooShort, Torn, Wrong}
-use Rattle.card.specs.Answers.{is_done, oversize}
+use Rattle.card.specs.Answers.{CardAnswer, Done, TooLarge, TooShort, Torn, Wrong, is_done, oversize}
 use Rattle.card.specs.Layout.{choose, list_of, count, blocks, block_byte, card_byte, card, patterns}
 use Rattle.card.specs.Reading.{Bytes, block, changed, handed, header, header_of, number, number_at, number_of, pattern, read_answer, reading, slab_after, sum_of, torn, torn_block, wrong}
 use Rattle.card.specs.Writing.{buffer_after, write_answer}

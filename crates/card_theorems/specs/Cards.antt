@@ -5,9 +5,7 @@ use Rattle.std.specs.Float.{binary64, nan}
 use Rattle.std.specs.Float.Ieee.{fits, is_nan}
 use Rattle.encoding.specs.Stored.{stored}
 use Rattle.card.specs.declared.Header.{Header}
-use Rattle.card.specs.declared.CardAnswer.{CardAnswer}
-use Rattle.card.specs.declared.CardAnswer.TheVariants.{Done, TooLarge, TooShort, Torn, Wrong}
-use Rattle.card.specs.Answers.{oversize}
+use Rattle.card.specs.Answers.{CardAnswer, Done, TooLarge, TooShort, Torn, Wrong, oversize}
 use Rattle.card.specs.Layout.{list_of, count, blocks, card_byte, card}
 use Rattle.card.specs.Reading.{Bytes, block, header, number, number_at, number_of, read_answer, reading, slab_after, sum_of, torn, wrong}
 use Rattle.card.specs.Writing.{buffer_after, write_answer}

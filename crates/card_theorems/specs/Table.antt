@@ -3,8 +3,7 @@ use Rattle.std.specs.Prelude.{ℕ, List, [], ◌∷◌, ◌++◌, ◌≡◌, eqb
 use Rattle.std.specs.Float.{binary64, nan}
 use Rattle.std.specs.Float.Ieee.{of_bits}
 use Rattle.card.specs.declared.Header.{Header}
-use Rattle.card.specs.declared.CardAnswer.{CardAnswer}
-use Rattle.card.specs.declared.CardAnswer.TheVariants.{Done, TooLarge, TooShort, Torn, Wrong}
+use Rattle.card.specs.Answers.{CardAnswer, Done, TooLarge, TooShort, Torn, Wrong}
 use Rattle.card.specs.Layout.{choose, list_of, body_byte, block_byte, card, data_byte}
 use Rattle.card.specs.Reading.{read_answer, reading, slab_after}
 use Rattle.card.specs.Writing.{header_for, write_answer}

@@ -1,5 +1,6 @@
 // Complex numbers over f64. An element takes two numbers of the slab.
 
+ghost use Rattle.std.proofs.Common.{rules};
 ghost use Rattle.number.specs.Kind.{complex_numbers};
 ghost use Rattle.number.specs.Scaling.{complex_multipliers};
 ghost use Rattle.number.proofs.Instances.{complex_number-laws};
@@ -19,6 +20,8 @@ impl Number for Complex {
     ghost multipliers = { complex_multipliers };
 
     ghost laws = { complex_number-laws };
+
+    ghost fit = { λ n h. Prim.search rules };
 
     #[tactic(auto, using(number::proofs::Literals::zero_literal))]
     fn zero() -> Complex {

@@ -1,6 +1,7 @@
 // What a number kind is: its operations, how its numbers lie in a slab, and its laws. A generic routine rests on these alone.
 
-ghost use Rattle.std.specs.Prelude.{◌≡◌, ◌<◌, ◌^◌};
+ghost use Rattle.std.specs.Mem.{type_size};
+ghost use Rattle.std.specs.Prelude.{◌≡◌, ℕ, ◌*◌, ◌<◌, ◌^◌};
 ghost use Rattle.number.specs.Kind.{Numbers, kind};
 ghost use Rattle.number.specs.Laws.{NumberLaws, SelfConjugate};
 ghost use Rattle.number.specs.Scaling.{Multipliers, beta_of, beta_real_of, scale_by};
@@ -120,6 +121,9 @@ pub trait Number: Copy {
     }
 
     ghost laws: { NumberLaws numbers };
+
+    // Fewer than 2 ^ 16 numbers side by side fit the memory.
+    ghost fit: { (n : ℕ) → n < 2 ^ 16 → n * type_size Self.row < 2 ^ 63 };
 }
 
 // A kind whose numbers are their own conjugates.

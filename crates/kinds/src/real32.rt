@@ -1,5 +1,6 @@
 // f32: IEEE 754's binary32.
 
+ghost use Rattle.std.proofs.Common.{rules};
 ghost use Rattle.std.specs.Float.{binary32};
 ghost use Rattle.number.specs.Kind.{real_numbers};
 ghost use Rattle.number.specs.Scaling.{real_multipliers};
@@ -20,6 +21,8 @@ impl Number for f32 {
     ghost multipliers = { real_multipliers binary32 };
 
     ghost laws = { real32_number-laws };
+
+    ghost fit = { λ n h. Prim.search rules };
 
     #[tactic(auto, using(number::proofs::Literals::zero_literal))]
     fn zero() -> f32 {

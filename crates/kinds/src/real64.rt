@@ -1,5 +1,6 @@
 // f64: IEEE 754's binary64.
 
+ghost use Rattle.std.proofs.Common.{rules};
 ghost use Rattle.std.specs.Float.{binary64};
 ghost use Rattle.number.specs.Kind.{real_numbers};
 ghost use Rattle.number.specs.Scaling.{real_multipliers};
@@ -20,6 +21,8 @@ impl Number for f64 {
     ghost multipliers = { real_multipliers binary64 };
 
     ghost laws = { real64_number-laws };
+
+    ghost fit = { λ n h. Prim.search rules };
 
     #[tactic(auto, using(number::proofs::Literals::zero_literal))]
     fn zero() -> f64 {

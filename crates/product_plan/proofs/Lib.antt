@@ -6,3 +6,5 @@ pub mod Products
 pub mod Ready
 pub mod Upper
 pub mod Kernels
+pub mod Scales
+pub mod Steps

@@ -1,0 +1,16 @@
+-- The steps of a loop over the elements of a target and over the terms of a sum.
+use Rattle.slabs.proofs.LoopLaws.{row-begun, put_next, rows-begun, rows_next, span-start, span-next}
+use Rattle.slabs.proofs.RunLaws.{plus-first, plus-on}
+use Rattle.product_plan.proofs.Sums.{sum-whole, folded-sum}
+
+-- a row, and row after row
+pub ruleset rows = (row-begun, put_next, rows-begun, rows_next)
+
+-- the columns of a row from one on
+pub ruleset columns = (span-start, span-next)
+
+-- a run of terms
+pub ruleset terms = (plus-first, plus-on)
+
+-- a whole sum
+pub ruleset sums = (sum-whole, folded-sum)

@@ -1,0 +1,154 @@
+// A product run by its plan, element by element: the same for every number kind.
+
+ghost use Rattle.std.specs.Prelude.{◌≡◌, ◌<◌, ◌-◌};
+ghost use Rattle.number.specs.Kind.{kind};
+ghost use Rattle.number.specs.Scaling.{scale_by};
+ghost use Rattle.view.specs.Steps.{Accepted};
+ghost use Rattle.view.specs.Triangle.{in_triangle};
+ghost use Rattle.slabs.specs.Eight.{lane, Block};
+ghost use Rattle.slabs.specs.Elem.{Within};
+ghost use Rattle.slabs.specs.Run.{plus_terms};
+ghost use Rattle.slabs.specs.Update.{everywhere, replaced, span, update_row, update};
+ghost use Rattle.blas.specs.Matrix.{accumulate};
+ghost use Rattle.product_plan.specs.Plan.{term, terms_before, folded_product, FactorsWithin};
+ghost use Rattle.product_plan.specs.Work.{plan_work, folded_work, CanRun, CanFold, CanRunFolded};
+
+use crate::plan::{Factors, Folded, Plan};
+use kinds::{Beta, Number};
+use slabs::{elem_conj, place};
+use view::{UpLo, View};
+
+// The slabs of the left factors and of the right ones, what a sum is multiplied by, and what becomes of the target's old elements.
+#[derive(Drop)]
+pub struct Operands<'a, N: Number> {
+    pub a: &'a [N::Cell],
+    pub b: &'a [N::Cell],
+    pub alpha: N::Multiplier,
+    pub beta: Beta<N::Multiplier>,
+}
+
+impl<'a, N: Number> Operands<'a, N> {
+    // The sum with the terms of element (i, j) from `from` to before `end` added.
+    #[tactic(auto, using(crate::proofs::Steps::terms))]
+    pub fn add_run(&self, f: Factors, i: usize, j: usize, from: usize, end: usize, sum: N) -> N
+        requires { FactorsWithin f (N.numbers.count self.now.a.now) (N.numbers.count self.now.b.now) i j from end }
+        ensures { result ≡ plus_terms (kind N.numbers) sum (term (kind N.numbers) f self.now.a.now self.now.b.now i j) from (end - from) }
+    {
+        let mut total = sum;
+        for p in from..end {
+            let x: N = elem_conj(f.left_conj, self.a, f.left, i, p);
+            total = total.add(x.mul(elem_conj(f.right_conj, self.b, f.right, p, j)));
+        }
+        total
+    }
+
+    // Element (i, j) of a target scaled, with alpha times the sum added.
+    pub fn settle(&self, v: View, c: &mut [N::Cell], i: usize, j: usize, sum: N)
+        requires { Within v (N.numbers.count c.old) i j }
+        ensures { c.new ≡ replaced (kind N.numbers) v i j (λ x. N.numbers.add (scale_by N.numbers N.multipliers self.now.beta x) (N.multipliers.times self.now.alpha sum)) c.old }
+    {
+        let k = place::<N>(c, v, i, j);
+        let old = N::get(c, k);
+        N::put(c, k, old.scaled(self.beta).add(sum.times(self.alpha)));
+    }
+
+    // Elements (i, first) to before (i, end) of a target, with the sums of those from column `from` on.
+    #[tactic(auto, using(crate::proofs::Steps::columns))]
+    pub fn settle_block<const W: usize>(
+        &self,
+        v: View,
+        c: &mut [N::Cell],
+        i: usize,
+        from: usize,
+        first: usize,
+        end: usize,
+        sums: [N; W],
+    )
+        requires { Accepted v (N.numbers.count c.old) × (i < v.rows) × Block W from first end v.cols }
+        ensures { c.new ≡ span (kind N.numbers) v (accumulate (kind N.numbers) (scale_by N.numbers N.multipliers self.now.beta) (N.multipliers.times self.now.alpha) (λ i j. lane (kind N.numbers) sums (j - from))) i first end c.old }
+    {
+        for j in first..end {
+            self.settle(v, c, i, j, sums[j - from]);
+        }
+    }
+
+    // Element (i, j) of the target.
+    #[tactic(auto, using(crate::proofs::Steps::sums))]
+    pub fn entry(&self, plan: Plan, c: &mut [N::Cell], i: usize, j: usize)
+        requires { CanRun N.numbers plan self.now c.old × (i < plan.target.rows) × (j < plan.target.cols) }
+        ensures { c.new ≡ replaced (kind N.numbers) plan.target i j (plan_work N.numbers N.multipliers plan self.now i j) c.old }
+    {
+        let sum = self.add_run(plan.factors, i, j, 0, plan.terms, N::zero());
+        self.settle(plan.target, c, i, j, sum);
+    }
+
+    // Row i of the target.
+    #[tactic(auto, using(crate::proofs::Steps::rows))]
+    pub fn row(&self, plan: Plan, c: &mut [N::Cell], i: usize)
+        requires { CanRun N.numbers plan self.now c.old × (i < plan.target.rows) }
+        ensures { c.new ≡ update_row (kind N.numbers) plan.target everywhere (plan_work N.numbers N.multipliers plan self.now) i plan.target.cols c.old }
+    {
+        for j in 0..plan.target.cols {
+            self.entry(plan, c, i, j);
+        }
+    }
+
+    // The whole target.
+    #[tactic(auto, using(crate::proofs::Steps::rows))]
+    pub fn run(&self, plan: Plan, c: &mut [N::Cell])
+        requires { CanRun N.numbers plan self.now c.old }
+        ensures { c.new ≡ update (kind N.numbers) plan.target everywhere (plan_work N.numbers N.multipliers plan self.now) c.old }
+    {
+        for i in 0..plan.target.rows {
+            self.row(plan, c, i);
+        }
+    }
+
+    // Row i of the target's named triangle.
+    #[tactic(auto, using(crate::proofs::Steps::columns))]
+    fn triangle_row(&self, uplo: UpLo, plan: Plan, c: &mut [N::Cell], i: usize)
+        requires { CanRun N.numbers plan self.now c.old × (i < plan.target.rows) × (i < plan.target.cols) }
+        ensures { c.new ≡ update_row (kind N.numbers) plan.target (in_triangle uplo) (plan_work N.numbers N.multipliers plan self.now) i plan.target.cols c.old }
+    {
+        for j in uplo.first_col(i)..uplo.end_col(i, plan.target.cols) {
+            self.entry(plan, c, i, j);
+        }
+    }
+
+    // The target's whole named triangle.
+    #[tactic(auto, using(crate::proofs::Steps::rows))]
+    pub fn run_triangle(&self, uplo: UpLo, plan: Plan, c: &mut [N::Cell])
+        requires { CanRun N.numbers plan self.now c.old × (plan.target.rows ≡ plan.target.cols) }
+        ensures { c.new ≡ update (kind N.numbers) plan.target (in_triangle uplo) (plan_work N.numbers N.multipliers plan self.now) c.old }
+    {
+        for i in 0..plan.target.rows {
+            self.triangle_row(uplo, plan, c, i);
+        }
+    }
+
+    // The sum of element (i, j) of a folded plan, which turns after k terms.
+    #[tactic(auto, using(crate::proofs::Steps::sums))]
+    pub fn turned_sum(&self, plan: Folded, k: usize, i: usize, j: usize) -> N
+        requires { CanFold N.numbers plan self.now × (i < plan.target.rows) × (j < plan.target.cols) × (k ≡ terms_before plan.turn i j) }
+        ensures { result ≡ folded_product (kind N.numbers) plan self.now.a.now self.now.b.now i j }
+    {
+        let head = self.add_run(plan.head, i, j, 0, k, N::zero());
+        self.add_run(plan.tail, i, j, k, plan.terms, head)
+    }
+
+    // The same, with its turn found.
+    pub fn folded_sum(&self, plan: Folded, i: usize, j: usize) -> N
+        requires { CanFold N.numbers plan self.now × (i < plan.target.rows) × (j < plan.target.cols) }
+        ensures { result ≡ folded_product (kind N.numbers) plan self.now.a.now self.now.b.now i j }
+    {
+        self.turned_sum(plan, plan.turn.at(i, j, plan.terms), i, j)
+    }
+
+    // Element (i, j) of a folded plan's target.
+    pub fn folded_entry(&self, plan: Folded, c: &mut [N::Cell], i: usize, j: usize)
+        requires { CanRunFolded N.numbers plan self.now c.old × (i < plan.target.rows) × (j < plan.target.cols) }
+        ensures { c.new ≡ replaced (kind N.numbers) plan.target i j (folded_work N.numbers N.multipliers plan self.now i j) c.old }
+    {
+        self.settle(plan.target, c, i, j, self.folded_sum(plan, i, j));
+    }
+}
