@@ -1,20 +1,16 @@
 -- Sums of pairs of products side by side, as a loop meets them, and the columns of a row that are settled from them.
-use Prim.Native.Nat.{ℕ, ◌+◌, ◌-◌, ◌^◌, ◌≤◌, ◌<◌}
+use Prim.Native.Nat.{ℕ, ◌+◌, ◌-◌, ◌≤◌, ◌<◌}
 use mathlib.Core.List.{List}
 use mathlib.Core.Path.{◌≡◌, sym, ap, ◌∙◌}
 use native.Mathlib.Omega.{arith}
+use lib.ListN.{get_or}
+use Rattle.std.proofs.lemmas.List.{get_or_default}
 use Rattle.number.specs.Kind.{Kind}
 use Rattle.view.specs.declared.View.{View}
-use Rattle.view.specs.Triangle.{end_col}
-use Rattle.slabs.specs.Elem.{Within}
-use Rattle.slabs.specs.Eight.{lane, Lanes}
+use Rattle.slabs.specs.Eight.{lane, Lanes, Block}
 use Rattle.slabs.specs.Update.{replaced}
 use Rattle.blas.specs.Matrix.{pair_sum}
 use Rattle.blas.proofs.SumLaws.{pair-start, pair-next}
-use Rattle.rank_plan.specs.declared.plan.Plan.{Plan}
-use Rattle.rank_plan.specs.Ready.{Paired, Entries, BlockWithin}
-use Rattle.rank_plan.proofs.Inside.{paired-kept, paired-shows}
-use Rattle.rank_plan.proofs.Rows.{column-lt}
 
 -- ---- w sums
 
@@ -33,12 +29,13 @@ module _ {w : ℕ} (K : Kind) where
         → Lanes K w r (λ t. pair_sum K (p + 1) (f t) (g t))
     pairs_next p s r h k = record { count = k.count; sum = λ t l. pair-next K (f t) (g t) p _ _ (h.sum t l) (k.sum t l) }
 
-  -- the sum of column j, where they are those of the columns from `from` on
-  pub sum_of : (f : ℕ → K.Elem) (s : List K.Elem) (from j : ℕ) → Lanes K w s (λ t. f (from + t)) → from ≤ j → j < from + w → lane K s (j - from) ≡ f j
-  sum_of f s from j h l m =
+  -- the sum that is read for column j, where they are those of the columns from `from` on
+  pub sum_of : (f : ℕ → K.Elem) (s : List K.Elem) (from j : ℕ) (d : K.Elem) → Lanes K w s (λ t. f (from + t)) → from ≤ j → j < from + w
+      → get_or s (j - from) d ≡ f j
+  sum_of f s from j d h l m =
       let q : j - from < w = omega arith in
       let e : from + (j - from) ≡ j = omega arith in
-      h.sum (j - from) q ∙ ap f e
+      get_or_default s (j - from) d K.zero (omega (arith, h.count)) ∙ h.sum (j - from) q ∙ ap f e
 
 -- ---- an element settled by a number that is known
 
@@ -46,32 +43,8 @@ pub settled : (K : Kind) (v : View) (i j : ℕ) (scale : K.Elem → K.Elem) (x y
     → t ≡ replaced K v i j (λ old. K.add (scale old) x) s → t ≡ replaced K v i j (λ old. K.add (scale old) y) s
 settled K v i j scale x y s t e h = h ∙ ap (λ z. replaced K v i j (λ old. K.add (scale old) z) s) e
 
--- ---- what a block asks of its slabs
+-- ---- the block of column j, of the columns before e
 
-module _ (w : ℕ) (plan : Plan) (la lb lc i from first end : ℕ) (b : BlockWithin w plan la lb lc i from first end) where
-  pub block_sums : Entries w plan la lb i from
-  block_sums = record { factors = b.paired.factors; row = b.row; cols = b.block.within }
-
-  pub block_shows : (lc' j : ℕ) → lc' ≡ lc → j < end → Within plan.target lc' i j
-  block_shows lc' j kept l = paired-shows plan la lb lc lc' kept b.paired i j b.row (omega (arith, b.block.within, b.block.ends, b.paired.target.cols))
-
--- ---- the block of column j of row i, of the n columns of a target, before column e
-
-module _ (w : ℕ) (plan : Plan) (la lb lc : ℕ) (o : Paired plan la lb lc) (i : ℕ) (h : i < plan.target.rows) (wide : w ≤ plan.target.cols)
-    (n : ℕ) (en : n ≡ plan.target.cols) (e : ℕ) (ee : e ≡ end_col plan.uplo i n) (j : ℕ) (l : j < e) where
-  pub block_asks : 0 < w → (j < n) × (w ≤ n) × (n < 2 ^ 63) × (0 < w)
-  block_asks some = (
-    omega (arith, column-lt plan.target lc o.target i h n en plan.uplo e j ee l, en, o.target.cols),
-    omega (arith, wide, en),
-    omega (arith, en, o.target.fits.cols-le),
-    some,
-  )
-
-  pub next_block : (lc' : ℕ) → lc' ≡ lc → (from stop : ℕ) → (from ≤ j) × (j < from + w) × (from + w ≤ n) → (stop ≤ e) × (stop ≤ from + w) × ((k : ℕ) → k < e → k < from + w → k < stop)
-      → BlockWithin w plan la lb lc' i from j stop
-  next_block lc' kept from stop s t =
-      record {
-        paired = paired-kept plan la lb lc lc' kept o;
-        row = h;
-        block = record { begins = s.0; ordered = omega (arith, t.2 j l s.1); ends = t.1; within = omega (arith, s.2, en) };
-      }
+pub next_block : (w n j e from stop : ℕ) → j < e → (from ≤ j) × (j < from + w) × (from + w ≤ n) → (stop ≤ e) × (stop ≤ from + w) × ((k : ℕ) → k < e → k < from + w → k < stop)
+    → Block w from j stop n
+next_block w n j e from stop l s t = record { begins = s.0; ordered = omega (arith, t.2 j l s.1); ends = t.1; within = s.2 }

@@ -1,11 +1,11 @@
 -- What the code reads and writes is inside the slabs.
-use Prim.Native.Nat.{ℕ, ◌+◌, ◌<◌}
+use Prim.Native.Nat.{ℕ, ◌<◌}
 use mathlib.Core.Path.{◌≡◌, sym, subst}
 use native.Mathlib.Omega.{arith}
 use Rattle.view.specs.declared.View.{View}
 use Rattle.slabs.specs.Elem.{Within}
 use Rattle.rank_plan.specs.declared.plan.Plan.{Plan}
-use Rattle.rank_plan.specs.Ready.{Sized, One, Two, Paired, Entries}
+use Rattle.rank_plan.specs.Ready.{Sized, One, Two, Paired}
 
 -- ---- an element of a matrix
 
@@ -15,21 +15,6 @@ sized-shows v len m n s i j h g =
 
 pub column-shows : (v : View) (len m : ℕ) → Sized v len m 1 → (i : ℕ) → i < m → Within v len i 0
 column-shows v len m s i h = sized-shows v len m 1 s i 0 h (omega arith)
-
--- ---- the factors of the two products at p
-
-module _ (w : ℕ) (plan : Plan) (la lb i j : ℕ) (e : Entries w plan la lb i j) (p : ℕ) (h : p < plan.terms) where
-  pub left_a_shows : Within plan.left_a la i p
-  left_a_shows = sized-shows _ _ _ _ e.factors.left-a i p e.row h
-
-  pub left_b_shows : Within plan.left_b lb i p
-  left_b_shows = sized-shows _ _ _ _ e.factors.left-b i p e.row h
-
-  pub right_b_shows : (t : ℕ) → t < w → Within plan.right_b lb p (j + t)
-  right_b_shows t l = sized-shows _ _ _ _ e.factors.right-b p (j + t) h (omega (arith, e.cols))
-
-  pub right_a_shows : (t : ℕ) → t < w → Within plan.right_a la p (j + t)
-  right_a_shows t l = sized-shows _ _ _ _ e.factors.right-a p (j + t) h (omega (arith, e.cols))
 
 -- ---- an element of the target, whose slab keeps its length
 

@@ -1,0 +1,94 @@
+// her.
+
+ghost use Rattle.std.specs.Prelude.{◌≡◌, ◌<◌};
+ghost use Rattle.number.specs.Kind.{kind};
+ghost use Rattle.view.specs.Triangle.{in_triangle};
+ghost use Rattle.slabs.specs.Elem.{elem, lent, Within};
+ghost use Rattle.slabs.specs.Update.{replaced, update_row, update};
+ghost use Rattle.blas.specs.Outcome.{Gives};
+ghost use Rattle.blas.specs.Her;
+ghost use Rattle.rank_plan.specs.Change.{add_one};
+ghost use Rattle.rank_plan.specs.Ready.{One};
+
+use call_check::check_her;
+use call_check::quick::quick_her;
+use kinds::Number;
+use slabs::{elem, place};
+use view::{Answer, UpLo, View};
+
+// Element (i, j) of her's target, where w is alpha·xi.
+fn her_entry<N: Number>(
+    w: N,
+    x: &[N::Cell],
+    vx: View,
+    a: &mut [N::Cell],
+    va: View,
+    i: usize,
+    j: usize,
+)
+    requires { Within vx (N.numbers.count x.now) j 0 × Within va (N.numbers.count a.old) i j }
+    ensures { let K = kind N.numbers in a.new ≡ replaced K va i j (add_one K w (elem K x.now vx) j) a.old }
+{
+    let t = place::<N>(a, va, i, j);
+    let old = N::get(a, t);
+    let xj: N = elem(x, vx, j, 0);
+    N::put(a, t, old.add(w.mul(xj.conj())));
+}
+
+// Row i of her's target, which has as many columns as rows.
+fn her_row<N: Number>(
+    uplo: UpLo,
+    alpha: N::Factor,
+    x: &[N::Cell],
+    vx: View,
+    a: &mut [N::Cell],
+    va: View,
+    i: usize,
+)
+    requires { One vx (N.numbers.count x.now) va (N.numbers.count a.old) × (i < va.rows) }
+    ensures { let K = kind N.numbers in a.new ≡ update_row K va (in_triangle uplo) (Her.her_change K alpha (elem K x.now vx)) i va.cols a.old }
+{
+    let xi: N = elem(x, vx, i, 0);
+    let w = xi.scale_real(alpha);
+    for j in uplo.first_col(i)..uplo.end_col(i, va.rows) {
+        her_entry(w, x, vx, a, va, i, j);
+    }
+}
+
+// The whole of her's target; x is a column.
+fn her_rows<N: Number>(
+    uplo: UpLo,
+    alpha: N::Factor,
+    x: &[N::Cell],
+    vx: View,
+    a: &mut [N::Cell],
+    va: View,
+)
+    requires { One vx (N.numbers.count x.now) va (N.numbers.count a.old) }
+    ensures { let K = kind N.numbers in a.new ≡ update K va (in_triangle uplo) (Her.her_change K alpha (elem K x.now vx)) a.old }
+{
+    for i in 0..va.rows {
+        her_row::<N>(uplo, alpha, x, vx, a, va, i);
+    }
+}
+
+// A ← A + alpha x xᴴ, in the named triangle, alpha real
+pub fn her<N: Number>(
+    uplo: UpLo,
+    alpha: N::Factor,
+    x: &[N::Cell],
+    vx: View,
+    a: &mut [N::Cell],
+    va: View,
+) -> Answer
+    ensures { let K = kind N.numbers in Gives K (Her.her K uplo alpha (lent K x.now vx) (lent K a.old va)) result a.new }
+{
+    let lx = N::count(x);
+    let la = N::count(a);
+    let quick = quick_her(vx, lx, va, la);
+    let answer = check_her(quick, vx, lx, va, la);
+    if answer.passed() {
+        her_rows::<N>(uplo, alpha, x, vx.column(va.rows), a, va);
+    }
+    answer
+}
