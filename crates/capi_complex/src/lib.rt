@@ -290,7 +290,7 @@ pub extern "C" fn zb_zher(
     let vx = View::new(xstart, xrows, xcols, xrs, xcs);
     let va = View::new(astart, arows, acols, ars, acs);
     match UpLo::try_from(uplo) {
-        Ok(uplo) => u8::from(rank::her::her(uplo, alpha, x, vx, a, va)),
+        Ok(uplo) => u8::from(rank::her::her::<Complex>(uplo, alpha, x, vx, a, va)),
         Err(_) => u8::from(judge2(vx, x.len() / 2, va, a.len() / 2, false)),
     }
 }
@@ -326,7 +326,7 @@ pub extern "C" fn zb_zher2(
     let vy = View::new(ystart, yrows, ycols, yrs, ycs);
     let va = View::new(astart, arows, acols, ars, acs);
     match UpLo::try_from(uplo) {
-        Ok(uplo) => u8::from(rank::her2::her2(uplo, Complex { re: alphare, im: alphaim }, x, vx, y, vy, a, va)),
+        Ok(uplo) => u8::from(rank::her2::her2::<Complex>(uplo, Complex { re: alphare, im: alphaim }, x, vx, y, vy, a, va)),
         Err(_) => u8::from(judge3(vx, x.len() / 2, vy, y.len() / 2, va, a.len() / 2, false)),
     }
 }
@@ -365,7 +365,7 @@ pub extern "C" fn zb_zsyr2k(
     let vb = View::new(bstart, brows, bcols, brs, bcs);
     let vc = View::new(cstart, crows, ccols, crs, ccs);
     match uplo_trans(uplo, trans) {
-        Ok((uplo, trans)) => u8::from(rank::syr2k::syr2k(uplo, trans, Complex { re: alphare, im: alphaim }, a, va, b, vb, Complex { re: betare, im: betaim }, c, vc)),
+        Ok((uplo, trans)) => u8::from(rank::syr2k::syr2k::<Complex>(uplo, trans, Complex { re: alphare, im: alphaim }, a, va, b, vb, Complex { re: betare, im: betaim }, c, vc)),
         Err(_) => u8::from(judge3(va, a.len() / 2, vb, b.len() / 2, vc, c.len() / 2, false)),
     }
 }
@@ -403,7 +403,7 @@ pub extern "C" fn zb_zher2k(
     let vb = View::new(bstart, brows, bcols, brs, bcs);
     let vc = View::new(cstart, crows, ccols, crs, ccs);
     match uplo_trans(uplo, trans) {
-        Ok((uplo, trans)) => u8::from(rank::her2k::her2k(uplo, trans, Complex { re: alphare, im: alphaim }, a, va, b, vb, beta, c, vc)),
+        Ok((uplo, trans)) => u8::from(rank::her2k::her2k::<Complex>(uplo, trans, Complex { re: alphare, im: alphaim }, a, va, b, vb, beta, c, vc)),
         Err(_) => u8::from(judge3(va, a.len() / 2, vb, b.len() / 2, vc, c.len() / 2, false)),
     }
 }
