@@ -102,12 +102,11 @@ impl<'a, N: Number, W: Weigh<N>> Paired<'a, N, W> {
     {
         let n = self.plan.target.cols;
         let end = self.plan.uplo.end_col(i, n);
-        let mut j = self.plan.uplo.first_col(i);
-        while j < end {
+        let first = self.plan.uplo.first_col(i);
+        for j in (first..end).step_by(L) {
             let from = block_start(L, j, n);
             let stop = block_end(L, from, end);
             self.block::<L>(c, i, from, j, stop);
-            j = stop;
         }
     }
 

@@ -1,8 +1,7 @@
 -- The columns of the named triangle before j are settled.
-use Rattle.std.proofs.Common.{◌≡◌, ◌-◌, ◌≤◌}
+use Rattle.std.proofs.Common.{◌≡◌, ◌≤◌}
 use Rattle.number.specs.Kind.{kind}
 use Rattle.number.specs.Scaling.{scale_by}
-use Rattle.view.specs.Triangle.{first_col}
 use Rattle.slabs.specs.Update.{span}
 use Rattle.rank_plan.specs.Change.{paired_change}
 use Rattle.rank.proofs.pairs.Paired.row.Given as goal
@@ -11,9 +10,5 @@ abbrev pub invariant-loop-j : goal.invariant-loop-j
 invariant-loop-j g l =
     let n = g.N.Number.numbers in
     let s = l.self in
-    let first = first_col s.plan.uplo l.i in
-    (first ≤ l.j) × (l.j ≤ l.end)
-    × (l.c ≡ span (kind n) s.plan.target (paired_change (kind n) s.plan s.a.now s.b.now (g.W.Weigh.weights s.weigh) (scale_by n g.N.Number.multipliers s.beta)) l.i first l.j l.fn.c)
-
-abbrev pub decreases-loop-j : goal.decreases-loop-j
-decreases-loop-j g l = l.end - l.j
+    (l.j ≤ l.end)
+    × (l.c ≡ span (kind n) s.plan.target (paired_change (kind n) s.plan s.a.now s.b.now (g.W.Weigh.weights s.weigh) (scale_by n g.N.Number.multipliers s.beta)) l.i l.first l.j l.fn.c)
