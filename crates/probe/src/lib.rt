@@ -34,7 +34,7 @@ pub extern "C" fn zb_dher(
     let vx = View::new(xstart, xrows, xcols, xrs, xcs);
     let va = View::new(astart, arows, acols, ars, acs);
     match UpLo::try_from(uplo) {
-        Ok(uplo) => u8::from(rank::her::her(uplo, alpha, x, vx, a, va)),
+        Ok(uplo) => u8::from(rank::her::her::<f64>(uplo, alpha, x, vx, a, va)),
         Err(_) => u8::from(judge2(vx, x.len(), va, a.len(), false)),
     }
 }
@@ -69,7 +69,7 @@ pub extern "C" fn zb_dher2(
     let vy = View::new(ystart, yrows, ycols, yrs, ycs);
     let va = View::new(astart, arows, acols, ars, acs);
     match UpLo::try_from(uplo) {
-        Ok(uplo) => u8::from(rank::her2::her2(uplo, alpha, x, vx, y, vy, a, va)),
+        Ok(uplo) => u8::from(rank::her2::her2::<f64>(uplo, alpha, x, vx, y, vy, a, va)),
         Err(_) => u8::from(judge3(vx, x.len(), vy, y.len(), va, a.len(), false)),
     }
 }
@@ -106,7 +106,7 @@ pub extern "C" fn zb_dsyr2k(
     let vb = View::new(bstart, brows, bcols, brs, bcs);
     let vc = View::new(cstart, crows, ccols, crs, ccs);
     match uplo_trans(uplo, trans) {
-        Ok((uplo, trans)) => u8::from(rank::syr2k::syr2k(
+        Ok((uplo, trans)) => u8::from(rank::syr2k::syr2k::<f64>(
             uplo, trans, alpha, a, va, b, vb, beta, c, vc,
         )),
         Err(_) => u8::from(judge3(va, a.len(), vb, b.len(), vc, c.len(), false)),
@@ -145,7 +145,7 @@ pub extern "C" fn zb_dher2k(
     let vb = View::new(bstart, brows, bcols, brs, bcs);
     let vc = View::new(cstart, crows, ccols, crs, ccs);
     match uplo_trans(uplo, trans) {
-        Ok((uplo, trans)) => u8::from(rank::her2k::her2k(
+        Ok((uplo, trans)) => u8::from(rank::her2k::her2k::<f64>(
             uplo, trans, alpha, a, va, b, vb, beta, c, vc,
         )),
         Err(_) => u8::from(judge3(va, a.len(), vb, b.len(), vc, c.len(), false)),
@@ -175,7 +175,7 @@ pub extern "C" fn zb_zher(
     let vx = View::new(xstart, xrows, xcols, xrs, xcs);
     let va = View::new(astart, arows, acols, ars, acs);
     match UpLo::try_from(uplo) {
-        Ok(uplo) => u8::from(rank::her::her(uplo, alpha, x, vx, a, va)),
+        Ok(uplo) => u8::from(rank::her::her::<Complex>(uplo, alpha, x, vx, a, va)),
         Err(_) => u8::from(judge2(vx, x.len() / 2, va, a.len() / 2, false)),
     }
 }
@@ -211,7 +211,7 @@ pub extern "C" fn zb_zher2(
     let vy = View::new(ystart, yrows, ycols, yrs, ycs);
     let va = View::new(astart, arows, acols, ars, acs);
     match UpLo::try_from(uplo) {
-        Ok(uplo) => u8::from(rank::her2::her2(
+        Ok(uplo) => u8::from(rank::her2::her2::<Complex>(
             uplo,
             Complex {
                 re: alphare,
@@ -262,7 +262,7 @@ pub extern "C" fn zb_zsyr2k(
     let vb = View::new(bstart, brows, bcols, brs, bcs);
     let vc = View::new(cstart, crows, ccols, crs, ccs);
     match uplo_trans(uplo, trans) {
-        Ok((uplo, trans)) => u8::from(rank::syr2k::syr2k(
+        Ok((uplo, trans)) => u8::from(rank::syr2k::syr2k::<Complex>(
             uplo,
             trans,
             Complex {
@@ -317,7 +317,7 @@ pub extern "C" fn zb_zher2k(
     let vb = View::new(bstart, brows, bcols, brs, bcs);
     let vc = View::new(cstart, crows, ccols, crs, ccs);
     match uplo_trans(uplo, trans) {
-        Ok((uplo, trans)) => u8::from(rank::her2k::her2k(
+        Ok((uplo, trans)) => u8::from(rank::her2k::her2k::<Complex>(
             uplo,
             trans,
             Complex {
