@@ -50,6 +50,3 @@ module _ (v : View) (len : ℕ) (square : SquareWithin v len) (i : ℕ) (h : i <
 
   pub begins : (uplo : UpLo) (e j : ℕ) → e ≡ end_col uplo i n → j ≡ first_col uplo i → j ≤ e
   begins uplo e j ee ej = omega (arith, ee, ej, first-le uplo i n row_lt)
-
-  pub column-lt : (uplo : UpLo) (e j : ℕ) → e ≡ end_col uplo i n → j < e → j < v.rows
-  column-lt uplo e j ee g = omega (arith, ee, g, en, square.cols, end_le uplo i n row_lt)

@@ -7,7 +7,7 @@ use lib.ListN.{get_or}
 use Rattle.std.proofs.lemmas.List.{get_or_default}
 use Rattle.number.specs.Kind.{Kind}
 use Rattle.view.specs.declared.View.{View}
-use Rattle.slabs.specs.Eight.{lane, Lanes, Block}
+use Rattle.slabs.specs.Eight.{lane, Lanes}
 use Rattle.slabs.specs.Update.{replaced}
 use Rattle.blas.specs.Matrix.{pair_sum}
 use Rattle.blas.proofs.SumLaws.{pair-start, pair-next}
@@ -15,11 +15,6 @@ use Rattle.blas.proofs.SumLaws.{pair-start, pair-next}
 -- ---- w sums
 
 module _ {w : ℕ} (K : Kind) where
-  -- a term more, and then another
-  pub two_more : (s next r : List K.Elem) (f g : ℕ → K.Elem) → Lanes K w next (λ t. K.add (lane K s t) (f t)) → Lanes K w r (λ t. K.add (lane K next t) (g t))
-      → Lanes K w r (λ t. K.add (K.add (lane K s t) (f t)) (g t))
-  two_more s next r f g h k = record { count = k.count; sum = λ t l. k.sum t l ∙ ap (λ z. K.add z (g t)) (h.sum t l) }
-
   -- sum t is of the terms f t and g t; zeros are the sums of no terms
   module _ (f g : ℕ → ℕ → K.Elem) where
     pub pairs_start : (s : List K.Elem) → Lanes K w s (λ t. K.zero) → Lanes K w s (λ t. pair_sum K 0 (f t) (g t))
@@ -42,9 +37,3 @@ module _ {w : ℕ} (K : Kind) where
 pub settled : (K : Kind) (v : View) (i j : ℕ) (scale : K.Elem → K.Elem) (x y : K.Elem) (s t : List K.Cell) → x ≡ y
     → t ≡ replaced K v i j (λ old. K.add (scale old) x) s → t ≡ replaced K v i j (λ old. K.add (scale old) y) s
 settled K v i j scale x y s t e h = h ∙ ap (λ z. replaced K v i j (λ old. K.add (scale old) z) s) e
-
--- ---- the block of column j, of the columns before e
-
-pub next_block : (w n j e from stop : ℕ) → j < e → (from ≤ j) × (j < from + w) × (from + w ≤ n) → (stop ≤ e) × (stop ≤ from + w) × ((k : ℕ) → k < e → k < from + w → k < stop)
-    → Block w from j stop n
-next_block w n j e from stop l s t = record { begins = s.0; ordered = omega (arith, t.2 j l s.1); ends = t.1; within = s.2 }
