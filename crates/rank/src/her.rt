@@ -56,6 +56,7 @@ fn her_row<N: Number>(
 }
 
 // The whole of her's target; x is a column.
+#[inline(always)]
 fn her_rows<N: Number>(
     uplo: UpLo,
     alpha: N::Factor,
@@ -73,6 +74,7 @@ fn her_rows<N: Number>(
 }
 
 // A ← A + alpha x xᴴ, in the named triangle, alpha real
+#[inline(always)]
 pub fn her<N: Number>(
     uplo: UpLo,
     alpha: N::Factor,

@@ -63,6 +63,7 @@ fn her2_row<N: Number>(
 }
 
 // The whole of her2's target; x and y are columns.
+#[inline(always)]
 fn her2_rows<N: Number>(
     uplo: UpLo,
     alpha: N,
@@ -82,6 +83,7 @@ fn her2_rows<N: Number>(
 }
 
 // A ← A + alpha x yᴴ + conj(alpha) y xᴴ, in the named triangle
+#[inline(always)]
 pub fn her2<N: Number>(
     uplo: UpLo,
     alpha: N,

@@ -14,6 +14,7 @@ use rank_plan::her2k_plan;
 use view::{Answer, Trans, UpLo, View};
 
 // C ← alpha A Bᴴ + conj(alpha) B Aᴴ + beta C or alpha Aᴴ B + conj(alpha) Bᴴ A + beta C, in the named triangle, beta real
+#[inline(always)]
 pub fn her2k<N: Number>(
     uplo: UpLo,
     trans: Trans,

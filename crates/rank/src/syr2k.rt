@@ -14,6 +14,7 @@ use rank_plan::syr2k_plan;
 use view::{Answer, Trans, UpLo, View};
 
 // C ← alpha A Bᵀ + alpha B Aᵀ + beta C or alpha Aᵀ B + alpha Bᵀ A + beta C, in the named triangle
+#[inline(always)]
 pub fn syr2k<N: Number>(
     uplo: UpLo,
     trans: Trans,

@@ -4,8 +4,10 @@ use Prim.Native.Nat.{ℕ}
 use mathlib.Core.Bool.{Bool, true, false}
 use mathlib.Core.List.{List, [], ◌∷◌}
 use mathlib.Core.Path.{◌≡◌, ap, ◌∙◌}
-use Rattle.number.specs.Kind.{Kind}
-use Rattle.number.specs.Scaling.{scaled, scaled_real}
+use Rattle.number.specs.Kind.{Kind, Numbers, kind}
+use Rattle.number.specs.Scaling.{scaled, scaled_real, Multipliers, beta_of, beta_real_of, scale_by}
+use Rattle.number.specs.declared.Beta.{Beta}
+use Rattle.number.proofs.ScalingLaws.{scale-by, scale-by-real}
 use Rattle.view.specs.declared.View.{View}
 use Rattle.view.specs.declared.Answer.{Answer}
 use Rattle.view.specs.declared.Trans.{Trans}
@@ -29,7 +31,7 @@ use Rattle.rank_plan.specs.declared.plan.Plan.{Plan}
 use Rattle.rank_plan.specs.declared.plan.Readings.{Readings}
 use Rattle.rank_plan.specs.Plan.{paired_plan, syr2k_plan, her2k_plan, syr_readings, her_readings}
 use Rattle.rank_plan.specs.Change.{Weights, sum_weighed, factors_weighed, pairs_at, syr2k_change, her2k_change}
-use Rattle.rank_plan.specs.Ready.{One, Two, Paired}
+use Rattle.rank_plan.specs.Ready.{Factors, One, Paired, SquareWithin, Two}
 use Rattle.rank_plan.proofs.Ready.{her-ready, her2-ready, paired-ready, syr-turned, her-turned}
 
 -- ---- her
@@ -72,8 +74,11 @@ module _ (K : Kind) (uplo : UpLo) (alpha : K.Elem) (x y a : Lent K) (lx ly la : 
   her2-passed : flag ≡ true → Passed (arg x.view (K.count x.slab) ∷ arg y.view (K.count y.slab) ∷ arg a.view (K.count a.slab) ∷ []) (hemv_shape a.view x.view y.view) a.view
   her2-passed h = judge-passed _ _ _ (check_done _ r flag her2-answered told h)
 
-  pub her2_vectors : flag ≡ true → (vector_of x.view a.view.rows ≡ true) × (vector_of y.view a.view.rows ≡ true)
-  her2_vectors h = let s = hemv-sizes a.view x.view y.view (her2-passed h).shape in (s.1.shape, s.2.shape)
+  pub her2_vector_x : flag ≡ true → vector_of x.view a.view.rows ≡ true
+  her2_vector_x h = (hemv-sizes a.view x.view y.view (her2-passed h).shape).1.shape
+
+  pub her2_vector_y : flag ≡ true → vector_of y.view a.view.rows ≡ true
+  her2_vector_y h = (hemv-sizes a.view x.view y.view (her2-passed h).shape).2.shape
 
   pub her2_runs : flag ≡ true → (xc yc : View) → xc ≡ column_of x.view → yc ≡ column_of y.view → Two xc (K.count x.slab) yc (K.count y.slab) a.view (K.count a.slab)
   her2_runs h xc yc e f = rw (e, f) (her2-ready x.view y.view a.view _ _ _ (her2-passed h))
@@ -108,60 +113,72 @@ module _ (K : Kind) (uplo : UpLo) (t : Trans) (r : Readings) (a b : Lent K) (c :
 
 -- ---- syr2k
 
-module _ (K : Kind) (uplo : UpLo) (t : Trans) (alpha : K.Elem) (a b : Lent K) (beta : K.Elem) (c : Lent K)
-    (la lb lc : ℕ) (ea : la ≡ K.count a.slab) (eb : lb ≡ K.count b.slab) (ec : lc ≡ K.count c.slab)
+module _ {C E F M : Type 0} (n : Numbers C E F) (m : Multipliers n M) (uplo : UpLo) (t : Trans) (alpha : E) (a b : Lent (kind n)) (beta : E) (c : Lent (kind n))
+    (la lb lc : ℕ) (ea : la ≡ n.count a.slab) (eb : lb ≡ n.count b.slab) (ec : lc ≡ n.count c.slab)
     (r : Answer) (flag : Bool) (answered : r ≡ syr2k_check t a.view la b.view lb c.view lc) (told : flag ≡ is_done r) where
-  syr2k-answered : r ≡ syr2k_check t a.view (K.count a.slab) b.view (K.count b.slab) c.view (K.count c.slab)
+  syr2k-answered : r ≡ syr2k_check t a.view (n.count a.slab) b.view (n.count b.slab) c.view (n.count c.slab)
   syr2k-answered = answered ∙ (λ i. syr2k_check t a.view (ea i) b.view (eb i) c.view (ec i))
 
-  pub syr2k_runs : flag ≡ true → (plan : Plan) → plan ≡ syr2k_plan uplo t a.view b.view c.view → Paired plan (K.count a.slab) (K.count b.slab) (K.count c.slab)
-  syr2k_runs h plan planned =
+  syr2k-runs : flag ≡ true → (plan : Plan) → plan ≡ syr2k_plan uplo t a.view b.view c.view → Paired plan (n.count a.slab) (n.count b.slab) (n.count c.slab)
+  syr2k-runs h plan planned =
       rw planned (paired-ready uplo t _ (syr-turned t) a.view b.view c.view _ _ _ (judge-passed _ _ _ (check_done _ r flag syr2k-answered told h)))
 
-  pub syr2k_refused : flag ≡ false → Gives K (syr2k K uplo t alpha a b beta c) r c.slab
-  unfolding syr2k
-  syr2k_refused h = gives-refusal K _ c.slab _ r flag syr2k-answered told h
+  pub syr2k_factors : flag ≡ true → (plan : Plan) → plan ≡ syr2k_plan uplo t a.view b.view c.view → Factors plan (n.count a.slab) (n.count b.slab)
+  syr2k_factors h plan planned = (syr2k-runs h plan planned).factors
 
-  abbrev syr2k-work : (K.Elem → K.Elem) → Plan → List K.Cell
-  syr2k-work by_beta plan = update K plan.target (in_triangle plan.uplo) (syr2k_change K plan a.slab b.slab alpha by_beta) c.slab
+  pub syr2k_square : flag ≡ true → (plan : Plan) → plan ≡ syr2k_plan uplo t a.view b.view c.view → SquareWithin plan.target (n.count c.slab)
+  syr2k_square h plan planned = (syr2k-runs h plan planned).target
 
-  pub syr2k_done : flag ≡ true → (by_beta : K.Elem → K.Elem) (plan : Plan) (after : List K.Cell) → by_beta ≡ scaled K beta → plan ≡ syr2k_plan uplo t a.view b.view c.view
-      → after ≡ syr2k-work by_beta plan → Gives K (syr2k K uplo t alpha a b beta c) r after
+  pub syr2k_refused : flag ≡ false → Gives (kind n) (syr2k (kind n) uplo t alpha a b beta c) r c.slab
   unfolding syr2k
-  syr2k_done passed by_beta plan after scale planned e =
-      gives-work K _ c.slab _ r flag after syr2k-answered told passed
+  syr2k_refused h = gives-refusal (kind n) _ c.slab _ r flag syr2k-answered told h
+
+  abbrev syr2k-work : (E → E) → Plan → List C
+  syr2k-work by_beta plan = update (kind n) plan.target (in_triangle plan.uplo) (syr2k_change (kind n) plan a.slab b.slab alpha by_beta) c.slab
+
+  pub syr2k_done : flag ≡ true → (judged : Beta M) (plan : Plan) (after : List C) → judged ≡ beta_of n m beta → plan ≡ syr2k_plan uplo t a.view b.view c.view
+      → after ≡ syr2k-work (scale_by n m judged) plan → Gives (kind n) (syr2k (kind n) uplo t alpha a b beta c) r after
+  unfolding syr2k
+  syr2k_done passed judged plan after judging planned e =
+      gives-work (kind n) _ c.slab _ r flag after syr2k-answered told passed
       (e
-      ∙ (λ i. syr2k-work (scale i) (planned i))
-      ∙ (λ s. update K c.view (in_triangle uplo)
-      (λ i j old. K.add (scaled K beta old) (K.mul alpha (read-pairs K uplo t (syr_readings t) a b c.view i j (op_cols t a.view) (sum_weighed K alpha) s)))
+      ∙ (λ i. syr2k-work ((ap (scale_by n m) judging ∙ scale-by n m beta) i) (planned i))
+      ∙ (λ s. update (kind n) c.view (in_triangle uplo)
+      (λ i j old. n.add (scaled (kind n) beta old) (n.mul alpha (read-pairs (kind n) uplo t (syr_readings t) a b c.view i j (op_cols t a.view) (sum_weighed (kind n) alpha) s)))
       c.slab))
 
 -- ---- her2k
 
-module _ (K : Kind) (uplo : UpLo) (t : Trans) (alpha : K.Elem) (a b : Lent K) (beta : K.Factor) (c : Lent K)
-    (la lb lc : ℕ) (ea : la ≡ K.count a.slab) (eb : lb ≡ K.count b.slab) (ec : lc ≡ K.count c.slab)
+module _ {C E F M : Type 0} (n : Numbers C E F) (m : Multipliers n M) (uplo : UpLo) (t : Trans) (alpha : E) (a b : Lent (kind n)) (beta : F) (c : Lent (kind n))
+    (la lb lc : ℕ) (ea : la ≡ n.count a.slab) (eb : lb ≡ n.count b.slab) (ec : lc ≡ n.count c.slab)
     (r : Answer) (flag : Bool) (answered : r ≡ her2k_check t a.view la b.view lb c.view lc) (told : flag ≡ is_done r) where
-  her2k-answered : r ≡ her2k_check t a.view (K.count a.slab) b.view (K.count b.slab) c.view (K.count c.slab)
+  her2k-answered : r ≡ her2k_check t a.view (n.count a.slab) b.view (n.count b.slab) c.view (n.count c.slab)
   her2k-answered = answered ∙ (λ i. her2k_check t a.view (ea i) b.view (eb i) c.view (ec i))
 
-  pub her2k_runs : flag ≡ true → (plan : Plan) → plan ≡ her2k_plan uplo t a.view b.view c.view → Paired plan (K.count a.slab) (K.count b.slab) (K.count c.slab)
-  her2k_runs h plan planned =
+  her2k-runs : flag ≡ true → (plan : Plan) → plan ≡ her2k_plan uplo t a.view b.view c.view → Paired plan (n.count a.slab) (n.count b.slab) (n.count c.slab)
+  her2k-runs h plan planned =
       rw planned (paired-ready uplo t _ (her-turned t) a.view b.view c.view _ _ _ (judge-passed _ _ _ (check_done _ r flag her2k-answered told h)))
 
-  pub her2k_refused : flag ≡ false → Gives K (her2k K uplo t alpha a b beta c) r c.slab
-  unfolding her2k
-  her2k_refused h = gives-refusal K _ c.slab _ r flag her2k-answered told h
+  pub her2k_factors : flag ≡ true → (plan : Plan) → plan ≡ her2k_plan uplo t a.view b.view c.view → Factors plan (n.count a.slab) (n.count b.slab)
+  her2k_factors h plan planned = (her2k-runs h plan planned).factors
 
-  abbrev her2k-work : (K.Elem → K.Elem) → Plan → List K.Cell
-  her2k-work by_beta plan = update K plan.target (in_triangle plan.uplo) (her2k_change K plan a.slab b.slab alpha by_beta) c.slab
+  pub her2k_square : flag ≡ true → (plan : Plan) → plan ≡ her2k_plan uplo t a.view b.view c.view → SquareWithin plan.target (n.count c.slab)
+  her2k_square h plan planned = (her2k-runs h plan planned).target
 
-  pub her2k_done : flag ≡ true → (by_beta : K.Elem → K.Elem) (plan : Plan) (after : List K.Cell) → by_beta ≡ scaled_real K beta → plan ≡ her2k_plan uplo t a.view b.view c.view
-      → after ≡ her2k-work by_beta plan → Gives K (her2k K uplo t alpha a b beta c) r after
+  pub her2k_refused : flag ≡ false → Gives (kind n) (her2k (kind n) uplo t alpha a b beta c) r c.slab
   unfolding her2k
-  her2k_done passed by_beta plan after scale planned e =
-      gives-work K _ c.slab _ r flag after her2k-answered told passed
+  her2k_refused h = gives-refusal (kind n) _ c.slab _ r flag her2k-answered told h
+
+  abbrev her2k-work : (E → E) → Plan → List C
+  her2k-work by_beta plan = update (kind n) plan.target (in_triangle plan.uplo) (her2k_change (kind n) plan a.slab b.slab alpha by_beta) c.slab
+
+  pub her2k_done : flag ≡ true → (judged : Beta M) (plan : Plan) (after : List C) → judged ≡ beta_real_of n m beta → plan ≡ her2k_plan uplo t a.view b.view c.view
+      → after ≡ her2k-work (scale_by n m judged) plan → Gives (kind n) (her2k (kind n) uplo t alpha a b beta c) r after
+  unfolding her2k
+  her2k_done passed judged plan after judging planned e =
+      gives-work (kind n) _ c.slab _ r flag after her2k-answered told passed
       (e
-      ∙ (λ i. her2k-work (scale i) (planned i))
-      ∙ (λ s. update K c.view (in_triangle uplo)
-      (λ i j old. K.add (scaled_real K beta old) ((read-pairs K uplo t (her_readings t) a b c.view i j (op_cols t a.view) (factors_weighed K alpha) s)))
+      ∙ (λ i. her2k-work ((ap (scale_by n m) judging ∙ scale-by-real n m beta) i) (planned i))
+      ∙ (λ s. update (kind n) c.view (in_triangle uplo)
+      (λ i j old. n.add (scaled_real (kind n) beta old) (read-pairs (kind n) uplo t (her_readings t) a b c.view i j (op_cols t a.view) (factors_weighed (kind n) alpha) s))
       c.slab))

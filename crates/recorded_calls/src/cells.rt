@@ -1,5 +1,5 @@
 // The cells of a record: numbers by their bits. Its slabs, its scalars, and what a call has to leave of them.
-ghost use Rattle.std.specs.Prelude.{◌≡◌, ◌*◌, ◌<◌, ◌^◌};
+ghost use Rattle.std.specs.Prelude.{◌≡◌, ◌*◌, ◌<◌, ◌^◌, ℕ, List};
 ghost use Rattle.std.specs.Mem.{type_size};
 ghost use Rattle.std.proofs.Common.{rules};
 ghost use Rattle.recorded_calls.specs.Little.{double, word};
@@ -12,14 +12,20 @@ use number::Complex;
 use view::Answer;
 
 pub trait Cell: Patterned + Default {
-    // The bits of cell i of the cells that begin at `at`, of which there are fewer than 4096.
-    fn bits_at(bytes: &[u8], at: usize, i: usize) -> Self::Pattern;
+    // The bits of cell i of the cells that begin at a place of a list of bytes.
+    ghost bits: { List ℕ → ℕ → ℕ → Self.Pattern };
+
+    // Those, of fewer than 4096 cells.
+    fn bits_at(bytes: &[u8], at: usize, i: usize) -> Self::Pattern
+        ensures { i < 4096 → result ≡ bits bytes.now at i };
 
     // A slab of them fits the memory.
     ghost fit: { 144 * type_size Self.row < 2 ^ 63 };
 }
 
 impl Cell for f64 {
+    ghost bits = { λ s at i. double s at (8 * i) };
+
     ghost fit = { Prim.search rules };
 
     fn bits_at(bytes: &[u8], at: usize, i: usize) -> u64 {
@@ -32,6 +38,8 @@ impl Cell for f64 {
 }
 
 impl Cell for f32 {
+    ghost bits = { λ s at i. word s at (4 * i) };
+
     ghost fit = { Prim.search rules };
 
     fn bits_at(bytes: &[u8], at: usize, i: usize) -> u32 {
@@ -117,7 +125,11 @@ impl Record<'_> {
 
     // Whether a call, lent the first two slabs and the target's, gives the record's answer and the target's slab after the
     // call, and leaves the others. It gives none where the list has no such routine.
-    pub fn agrees<T: Cell, F: FnOnce(&[T], &[T], &mut [T]) -> Option<Answer>>(self, call: F) -> bool
+    pub fn agrees<T: Cell, F: FnOnce(&[T], &[T], &mut [T]) -> Option<Answer>>(
+        self,
+        target: u8,
+        call: F,
+    ) -> bool
         requires { F.IsAlwaysCallable call }
     {
         let mut s = [T::default(); SLAB];
@@ -125,7 +137,7 @@ impl Record<'_> {
         let mut u = [T::default(); SLAB];
         let a = self.slab(0, &mut s);
         let b = self.slab(1, &mut t);
-        let c = self.slab(self.target(), &mut u);
+        let c = self.slab(target, &mut u);
         let answer = call(a, b, c);
         self.has_answer(answer)
             && self.kept(0, a)

@@ -51,10 +51,8 @@ impl Tally {
 
     // A line for each routine and kind that were called, then the list's records and how many of them agreed.
     pub(crate) fn report(&self, rt: &impl Print, records: u64) -> io::Result<()> {
-        for n in 0..16 {
-            if let Ok(routine) = Routine::try_from(n) {
-                self.report_routine(rt, routine)?;
-            }
+        for routine in (0..16).filter_map(|n| Routine::try_from(n).ok()) {
+            self.report_routine(rt, routine)?;
         }
         let all = self.total();
         println!(rt;

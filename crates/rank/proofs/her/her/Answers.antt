@@ -8,24 +8,16 @@ pub column-requires : goal.column-requires
 column-requires g c =
     let K = kind g.N.Number.numbers in
     let p = c.args in
-    her_vector K p.uplo p.alpha (lent K p.x.now p.vx) (lent K p.a.now p.va) _ _ c.count-lx.ensures.counted c.count-la.ensures.counted _ _ c.check_her-answer.ensures c.passed.ensures
-    c.if-passed.true
+    search (her_vector K p.uplo p.alpha (lent K p.x.now p.vx) (lent K p.a.now p.va))
 
 pub her_rows-requires : goal.her_rows-requires
 her_rows-requires g c =
     let K = kind g.N.Number.numbers in
     let p = c.args in
-    her_runs K p.uplo p.alpha (lent K p.x.now p.vx) (lent K p.a.now p.va) _ _ c.count-lx.ensures.counted c.count-la.ensures.counted _ _ c.check_her-answer.ensures c.passed.ensures
-    c.if-passed.true
-    _
-    c.column.ensures
+    search (her_runs K p.uplo p.alpha (lent K p.x.now p.vx) (lent K p.a.now p.va))
 
 pub returns-then-passed : goal.returns-then-passed
-returns-then-passed g c =
-    her_done (kind g.N.Number.numbers) _ _ _ _ _ _ c.count-lx.ensures.counted c.count-la.ensures.counted _ _ c.check_her-answer.ensures c.passed.ensures c.if-passed.true _ _
-    c.column.ensures
-    c.her_rows.ensures
+returns-then-passed g c = search (her_done (kind g.N.Number.numbers))
 
 pub returns-else-passed : goal.returns-else-passed
-returns-else-passed g c =
-    her_refused (kind g.N.Number.numbers) _ _ _ _ _ _ c.count-lx.ensures.counted c.count-la.ensures.counted _ _ c.check_her-answer.ensures c.passed.ensures c.if-passed.false
+returns-else-passed g c = search (her_refused (kind g.N.Number.numbers))

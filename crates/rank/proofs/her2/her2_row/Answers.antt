@@ -1,19 +1,20 @@
--- Column after column of the named triangle (Rows: row_begun, row_next, row_done), with both weights taken once (Laws: her2-same).
+-- Column after column of the named triangle (LoopLaws: span-start; Rows: changed_next, row_done), with both weights taken once (Laws: her2-same).
 use Rattle.std.proofs.Common.{arith, ap, ◌∙◌}
 use Rattle.number.specs.Kind.{kind}
 use Rattle.slabs.specs.Elem.{elem}
-use Rattle.rank_plan.proofs.Rows.{row_begun, row_next, row_done}
+use Rattle.slabs.proofs.LoopLaws.{span-start}
+use Rattle.rank_plan.proofs.Rows.{changed_next, row_done}
 use Rattle.rank_plan.proofs.Laws.{her2-same}
 use Rattle.rank.proofs.her2.her2_row.Goals as goal
 
 pub loop-j-init : goal.loop-j-init
-loop-j-init g c = row_begun (kind g.N.Number.numbers) _ c.args.i c.args.uplo _ _ _ c.first_col-j.ensures
+loop-j-init g c = span-start (kind g.N.Number.numbers) _ _ _ _ _
 
 pub loop-j-preserved : goal.loop-j-preserved
 loop-j-preserved g c =
     let n = g.N.Number.numbers in
     let p = c.args in
-    row_next (kind n) _ _ _ _ _ _ _ _ _ (omega arith) c.loop-j.invariant c.her2_entry.ensures
+    changed_next (kind n) _ _ _ _ _ _ _ _ _ c.loop-j.auto.j c.loop-j.invariant c.her2_entry.ensures
     (her2-same (kind n) p.alpha (elem (kind n) p.x.now p.vx) (elem (kind n) p.y.now p.vy) p.i _ _ (c.mul-w.ensures ∙ ap (n.mul p.alpha) c.elem.ensures)
     (c.mul-w2.ensures ∙ (λ t. n.mul (c.conj-conjugate.ensures t) (c.elem-2.ensures t)))
     _)

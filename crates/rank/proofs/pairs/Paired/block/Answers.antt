@@ -1,10 +1,10 @@
--- Each column is settled with its own sum (Eights: sum_of, settled).
+-- Each column is settled with its own sum (Sums: sum_of, settled).
 use Rattle.std.proofs.Common.{arith, ap}
 use Rattle.number.specs.Kind.{kind}
 use Rattle.number.specs.Scaling.{scale_by}
 use Rattle.slabs.proofs.LoopLaws.{span-start, span-next}
 use Rattle.rank_plan.specs.Change.{pairs_at}
-use Rattle.rank_plan.proofs.Eights.{sum_of, settled}
+use Rattle.rank_plan.proofs.Sums.{sum_of, settled}
 use Rattle.rank.proofs.pairs.Paired.block.Goals as goal
 
 pub loop-j-init : goal.loop-j-init

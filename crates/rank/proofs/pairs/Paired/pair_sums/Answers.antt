@@ -1,6 +1,6 @@
--- Zeros are the sums of no pairs; each turn adds a pair to each sum (Eights: pairs_start, pairs_next).
+-- Zeros are the sums of no pairs; each turn adds a pair to each sum (Sums: pairs_start, pairs_next).
 use Rattle.number.specs.Kind.{kind}
-use Rattle.rank_plan.proofs.Eights.{pairs_start, pairs_next}
+use Rattle.rank_plan.proofs.Sums.{pairs_start, pairs_next}
 use Rattle.rank.proofs.pairs.Paired.pair_sums.Goals as goal
 
 pub loop-p-init : goal.loop-p-init
