@@ -7,7 +7,7 @@ ghost use Rattle.view.specs.Triangle.{in_triangle};
 ghost use Rattle.slabs.specs.Elem.{Within};
 ghost use Rattle.slabs.specs.Eight.{lane, Lanes, Block};
 ghost use Rattle.slabs.specs.Update.{replaced, span, update_row, update};
-ghost use Rattle.rank_plan.specs.Change.{pair_at, pairs_at, paired_change};
+ghost use Rattle.rank_plan.specs.Change.{left_matrix_a, left_matrix_b, pair_at, pairs_at, paired_change};
 ghost use Rattle.rank_plan.specs.Ready.{Factors, SquareWithin};
 
 use crate::weights::Weigh;
@@ -31,7 +31,60 @@ pub(crate) struct Paired<'a, N: Number, W: Weigh<N>> {
 }
 
 impl<'a, N: Number, W: Weigh<N>> Paired<'a, N, W> {
-    // Each of L sums, those of row i from column j on, with the two products at p added one after the other.
+    // The left factors at p, weighed.
+    #[inline(always)]
+    fn left_a(&self, i: usize, p: usize) -> N
+        requires row { i < self.now.plan.target.rows }
+        requires term { p < self.now.plan.terms }
+        ensures { result ≡ (W.weights self.now.weigh).left_a (left_matrix_a (kind N.numbers) self.now.plan self.now.a.now self.now.b.now i p) }
+    {
+        let plan = self.plan;
+        self.weigh
+            .left_a(elem_conj(plan.left_conj, self.a, plan.left_a, i, p))
+    }
+
+    #[inline(always)]
+    fn left_b(&self, i: usize, p: usize) -> N
+        requires row { i < self.now.plan.target.rows }
+        requires term { p < self.now.plan.terms }
+        ensures { result ≡ (W.weights self.now.weigh).left_b (left_matrix_b (kind N.numbers) self.now.plan self.now.a.now self.now.b.now i p) }
+    {
+        let plan = self.plan;
+        self.weigh
+            .left_b(elem_conj(plan.left_conj, self.b, plan.left_b, i, p))
+    }
+
+    // A sum, with the two products at p added one after the other.
+    #[inline(always)]
+    fn add_pair(&self, p: usize, i: usize, j: usize, sum: N) -> N
+        requires row { i < self.now.plan.target.rows }
+        requires col { j < self.now.plan.target.cols }
+        requires term { p < self.now.plan.terms }
+        ensures { result ≡ pair_at (kind N.numbers) self.now.plan self.now.a.now self.now.b.now (W.weights self.now.weigh) i j p sum }
+    {
+        let plan = self.plan;
+        let x = self.left_a(i, p);
+        let y = self.left_b(i, p);
+        let first = x.mul(elem_conj(plan.right_conj, self.b, plan.right_b, p, j));
+        let second = y.mul(elem_conj(plan.right_conj, self.a, plan.right_a, p, j));
+        sum.add(first).add(second)
+    }
+
+    // The sum of all pairs of products for element (i, j).
+    #[inline(always)]
+    fn pair_sum(&self, i: usize, j: usize) -> N
+        requires row { i < self.now.plan.target.rows }
+        requires col { j < self.now.plan.target.cols }
+        ensures { result ≡ pairs_at (kind N.numbers) self.now.plan self.now.a.now self.now.b.now (W.weights self.now.weigh) i j self.now.plan.terms }
+    {
+        let mut sum = N::zero();
+        for p in 0..self.plan.terms {
+            sum = self.add_pair(p, i, j, sum);
+        }
+        sum
+    }
+
+    // The same side by side: each of L sums, those of row i from column j on, with its two products at p added.
     #[inline(always)]
     fn add_pairs<const L: usize>(&self, p: usize, i: usize, j: usize, sums: [N; L]) -> [N; L]
         requires row { i < self.now.plan.target.rows }
@@ -40,12 +93,8 @@ impl<'a, N: Number, W: Weigh<N>> Paired<'a, N, W> {
         ensures { Lanes (kind N.numbers) L result (λ t. pair_at (kind N.numbers) self.now.plan self.now.a.now self.now.b.now (W.weights self.now.weigh) i (j + t) p (lane (kind N.numbers) sums t)) }
     {
         let plan = self.plan;
-        let x = self
-            .weigh
-            .left_a(elem_conj(plan.left_conj, self.a, plan.left_a, i, p));
-        let y = self
-            .weigh
-            .left_b(elem_conj(plan.left_conj, self.b, plan.left_b, i, p));
+        let x = self.left_a(i, p);
+        let y = self.left_b(i, p);
         let first = plus_conj_lanes(x, plan.right_conj, self.b, plan.right_b, p, j, sums);
         plus_conj_lanes(y, plan.right_conj, self.a, plan.right_a, p, j, first)
     }
@@ -116,6 +165,7 @@ impl<'a, N: Number, W: Weigh<N>> Paired<'a, N, W> {
     }
 
     // Row i of any target, column after column.
+    #[inline(always)]
     fn narrow_row(&self, c: &mut [N::Cell], i: usize)
         requires square { SquareWithin self.now.plan.target (N.numbers.count c.old) }
         requires row { i < self.now.plan.target.rows }
@@ -123,8 +173,7 @@ impl<'a, N: Number, W: Weigh<N>> Paired<'a, N, W> {
     {
         let end = self.plan.uplo.end_col(i, self.plan.target.cols);
         for j in self.plan.uplo.first_col(i)..end {
-            let sums: [N; 1] = self.pair_sums(i, j);
-            self.settle(sums[0], c, i, j);
+            self.settle(self.pair_sum(i, j), c, i, j);
         }
     }
 

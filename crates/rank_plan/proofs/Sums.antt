@@ -32,12 +32,6 @@ module _ {w : ℕ} (K : Kind) where
       let e : from + (j - from) ≡ j = omega arith in
       get_or_default s (j - from) d K.zero (omega (arith, h.count)) ∙ h.sum (j - from) q ∙ ap f e
 
-  -- and that of the first of them
-  pub first_sum : (f : ℕ → K.Elem) (s : List K.Elem) (from : ℕ) (d : K.Elem) → Lanes K w s (λ t. f (from + t)) → 0 < w → get_or s 0 d ≡ f from
-  first_sum f s from d h some =
-      let e : from + 0 ≡ from = omega arith in
-      get_or_default s 0 d K.zero (omega (arith, h.count)) ∙ h.sum 0 some ∙ ap f e
-
 -- ---- an element settled by a number that is known
 
 pub settled : (K : Kind) (v : View) (i j : ℕ) (scale : K.Elem → K.Elem) (x y : K.Elem) (s t : List K.Cell) → x ≡ y
