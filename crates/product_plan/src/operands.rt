@@ -28,6 +28,27 @@ pub struct Operands<'a, N: Number> {
 }
 
 impl<'a, N: Number> Operands<'a, N> {
+    // The same with the left factors' slab for the right ones', and the other way round.
+    pub fn exchanged(&self) -> Operands<'a, N>
+        ensures { (result.a.now ≡ self.now.b.now) × (result.b.now ≡ self.now.a.now) × (result.alpha ≡ self.now.alpha) × (result.beta ≡ self.now.beta) }
+    {
+        Operands {
+            a: self.b,
+            b: self.a,
+            alpha: self.alpha,
+            beta: self.beta,
+        }
+    }
+
+    // Term p of element (i, j).
+    pub fn term(&self, f: Factors, i: usize, j: usize, p: usize) -> N
+        requires { Within f.left (N.numbers.count self.now.a.now) i p × Within f.right (N.numbers.count self.now.b.now) p j }
+        ensures { result ≡ term (kind N.numbers) f self.now.a.now self.now.b.now i j p }
+    {
+        let x: N = elem_conj(f.left_conj, self.a, f.left, i, p);
+        x.mul(elem_conj(f.right_conj, self.b, f.right, p, j))
+    }
+
     // The sum with the terms of element (i, j) from `from` to before `end` added.
     #[tactic(auto, using(crate::proofs::Steps::terms))]
     pub fn add_run(&self, f: Factors, i: usize, j: usize, from: usize, end: usize, sum: N) -> N
@@ -36,8 +57,7 @@ impl<'a, N: Number> Operands<'a, N> {
     {
         let mut total = sum;
         for p in from..end {
-            let x: N = elem_conj(f.left_conj, self.a, f.left, i, p);
-            total = total.add(x.mul(elem_conj(f.right_conj, self.b, f.right, p, j)));
+            total = total.add(self.term(f, i, j, p));
         }
         total
     }
