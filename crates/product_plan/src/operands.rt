@@ -1,11 +1,11 @@
 // A product run by its plan, element by element: the same for every number kind.
 
-ghost use Rattle.std.specs.Prelude.{◌≡◌, ◌<◌, ◌-◌};
+ghost use Rattle.std.specs.Prelude.{ℕ, ◌≡◌, ◌<◌, ◌+◌, ◌-◌};
 ghost use Rattle.number.specs.Kind.{kind};
 ghost use Rattle.number.specs.Scaling.{scale_by};
 ghost use Rattle.view.specs.Steps.{Accepted};
 ghost use Rattle.view.specs.Triangle.{in_triangle};
-ghost use Rattle.slabs.specs.Eight.{lane, Block};
+ghost use Rattle.slabs.specs.Eight.{lane, Lanes, Block};
 ghost use Rattle.slabs.specs.Elem.{Within};
 ghost use Rattle.slabs.specs.Run.{plus_terms};
 ghost use Rattle.slabs.specs.Update.{everywhere, replaced, span, update_row, update};
@@ -15,7 +15,7 @@ ghost use Rattle.product_plan.specs.Work.{plan_work, folded_work, CanRun, CanFol
 
 use crate::plan::{Factors, Folded, Plan};
 use kinds::{Beta, Number};
-use slabs::{elem_conj, place};
+use slabs::{elem_conj, place, plus_conj_lanes};
 use view::{UpLo, View};
 
 // The slabs of the left factors and of the right ones, what a sum is multiplied by, and what becomes of the target's old elements.
@@ -29,6 +29,7 @@ pub struct Operands<'a, N: Number> {
 
 impl<'a, N: Number> Operands<'a, N> {
     // The same with the left factors' slab for the right ones', and the other way round.
+    #[inline(always)]
     pub fn exchanged(&self) -> Operands<'a, N>
         ensures { (result.a.now ≡ self.now.b.now) × (result.b.now ≡ self.now.a.now) × (result.alpha ≡ self.now.alpha) × (result.beta ≡ self.now.beta) }
     {
@@ -41,6 +42,7 @@ impl<'a, N: Number> Operands<'a, N> {
     }
 
     // Term p of element (i, j).
+    #[inline(always)]
     pub fn term(&self, f: Factors, i: usize, j: usize, p: usize) -> N
         requires { Within f.left (N.numbers.count self.now.a.now) i p × Within f.right (N.numbers.count self.now.b.now) p j }
         ensures { result ≡ term (kind N.numbers) f self.now.a.now self.now.b.now i j p }
@@ -50,6 +52,7 @@ impl<'a, N: Number> Operands<'a, N> {
     }
 
     // The sum with the terms of element (i, j) from `from` to before `end` added.
+    #[inline(always)]
     #[tactic(auto, using(crate::proofs::Steps::terms))]
     pub fn add_run(&self, f: Factors, i: usize, j: usize, from: usize, end: usize, sum: N) -> N
         requires { FactorsWithin f (N.numbers.count self.now.a.now) (N.numbers.count self.now.b.now) i j from end }
@@ -62,7 +65,30 @@ impl<'a, N: Number> Operands<'a, N> {
         total
     }
 
+    // W sums, those of elements (i, j) to before (i, j + W), with the terms from `from` to before `end` added.
+    #[inline(always)]
+    pub fn add_lanes<const W: usize>(
+        &self,
+        f: Factors,
+        i: usize,
+        j: usize,
+        from: usize,
+        end: usize,
+        sums: [N; W],
+    ) -> [N; W]
+        requires { (0 < W) × ((t : ℕ) → t < W → FactorsWithin f (N.numbers.count self.now.a.now) (N.numbers.count self.now.b.now) i (j + t) from end) }
+        ensures { Lanes (kind N.numbers) W result (λ t. plus_terms (kind N.numbers) (lane (kind N.numbers) sums t) (term (kind N.numbers) f self.now.a.now self.now.b.now i (j + t)) from (end - from)) }
+    {
+        let mut totals = sums;
+        for p in from..end {
+            let u: N = elem_conj(f.left_conj, self.a, f.left, i, p);
+            totals = plus_conj_lanes(u, f.right_conj, self.b, f.right, p, j, totals);
+        }
+        totals
+    }
+
     // Element (i, j) of a target scaled, with alpha times the sum added.
+    #[inline(always)]
     pub fn settle(&self, v: View, c: &mut [N::Cell], i: usize, j: usize, sum: N)
         requires { Within v (N.numbers.count c.old) i j }
         ensures { c.new ≡ replaced (kind N.numbers) v i j (λ x. N.numbers.add (scale_by N.numbers N.multipliers self.now.beta x) (N.multipliers.times self.now.alpha sum)) c.old }
@@ -73,6 +99,7 @@ impl<'a, N: Number> Operands<'a, N> {
     }
 
     // Elements (i, first) to before (i, end) of a target, with the sums of those from column `from` on.
+    #[inline(always)]
     #[tactic(auto, using(crate::proofs::Steps::columns))]
     pub fn settle_block<const W: usize>(
         &self,
@@ -93,6 +120,7 @@ impl<'a, N: Number> Operands<'a, N> {
     }
 
     // Element (i, j) of the target.
+    #[inline(always)]
     #[tactic(auto, using(crate::proofs::Steps::sums))]
     pub fn entry(&self, plan: Plan, c: &mut [N::Cell], i: usize, j: usize)
         requires { CanRun N.numbers plan self.now c.old × (i < plan.target.rows) × (j < plan.target.cols) }
@@ -103,6 +131,7 @@ impl<'a, N: Number> Operands<'a, N> {
     }
 
     // Row i of the target.
+    #[inline(always)]
     #[tactic(auto, using(crate::proofs::Steps::rows))]
     pub fn row(&self, plan: Plan, c: &mut [N::Cell], i: usize)
         requires { CanRun N.numbers plan self.now c.old × (i < plan.target.rows) }
@@ -114,6 +143,7 @@ impl<'a, N: Number> Operands<'a, N> {
     }
 
     // The whole target.
+    #[inline(always)]
     #[tactic(auto, using(crate::proofs::Steps::rows))]
     pub fn run(&self, plan: Plan, c: &mut [N::Cell])
         requires { CanRun N.numbers plan self.now c.old }
@@ -125,6 +155,7 @@ impl<'a, N: Number> Operands<'a, N> {
     }
 
     // Row i of the target's named triangle.
+    #[inline(always)]
     #[tactic(auto, using(crate::proofs::Steps::columns))]
     fn triangle_row(&self, uplo: UpLo, plan: Plan, c: &mut [N::Cell], i: usize)
         requires { CanRun N.numbers plan self.now c.old × (i < plan.target.rows) × (i < plan.target.cols) }
@@ -136,6 +167,7 @@ impl<'a, N: Number> Operands<'a, N> {
     }
 
     // The target's whole named triangle.
+    #[inline(always)]
     #[tactic(auto, using(crate::proofs::Steps::rows))]
     pub fn run_triangle(&self, uplo: UpLo, plan: Plan, c: &mut [N::Cell])
         requires { CanRun N.numbers plan self.now c.old × (plan.target.rows ≡ plan.target.cols) }
@@ -147,6 +179,7 @@ impl<'a, N: Number> Operands<'a, N> {
     }
 
     // The sum of element (i, j) of a folded plan, which turns after k terms.
+    #[inline(always)]
     #[tactic(auto, using(crate::proofs::Steps::sums))]
     pub fn turned_sum(&self, plan: Folded, k: usize, i: usize, j: usize) -> N
         requires { CanFold N.numbers plan self.now × (i < plan.target.rows) × (j < plan.target.cols) × (k ≡ terms_before plan.turn i j) }
@@ -157,6 +190,7 @@ impl<'a, N: Number> Operands<'a, N> {
     }
 
     // The same, with its turn found.
+    #[inline(always)]
     pub fn folded_sum(&self, plan: Folded, i: usize, j: usize) -> N
         requires { CanFold N.numbers plan self.now × (i < plan.target.rows) × (j < plan.target.cols) }
         ensures { result ≡ folded_product (kind N.numbers) plan self.now.a.now self.now.b.now i j }
@@ -164,11 +198,21 @@ impl<'a, N: Number> Operands<'a, N> {
         self.turned_sum(plan, plan.turn.at(i, j, plan.terms), i, j)
     }
 
-    // Element (i, j) of a folded plan's target.
+    // Element (i, j) of a folded plan's target, where the sum turns after k terms.
+    #[inline(always)]
+    pub fn turned_entry(&self, plan: Folded, k: usize, c: &mut [N::Cell], i: usize, j: usize)
+        requires { CanRunFolded N.numbers plan self.now c.old × (i < plan.target.rows) × (j < plan.target.cols) × (k ≡ terms_before plan.turn i j) }
+        ensures { c.new ≡ replaced (kind N.numbers) plan.target i j (folded_work N.numbers N.multipliers plan self.now i j) c.old }
+    {
+        self.settle(plan.target, c, i, j, self.turned_sum(plan, k, i, j));
+    }
+
+    // The same, with its turn found.
+    #[inline(always)]
     pub fn folded_entry(&self, plan: Folded, c: &mut [N::Cell], i: usize, j: usize)
         requires { CanRunFolded N.numbers plan self.now c.old × (i < plan.target.rows) × (j < plan.target.cols) }
         ensures { c.new ≡ replaced (kind N.numbers) plan.target i j (folded_work N.numbers N.multipliers plan self.now i j) c.old }
     {
-        self.settle(plan.target, c, i, j, self.folded_sum(plan, i, j));
+        self.turned_entry(plan, plan.turn.at(i, j, plan.terms), c, i, j);
     }
 }

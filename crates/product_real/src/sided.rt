@@ -17,6 +17,7 @@ use slabs::block_start;
 use view::{Side, UpLo, View};
 
 // The sums of elements (i, j) to (i, j + 7), A on the side that LEFT says.
+#[inline(always)]
 fn side_eight<R: Real, const LEFT: bool>(
     ops: &Operands<R>,
     plan: Folded,
@@ -34,6 +35,7 @@ fn side_eight<R: Real, const LEFT: bool>(
 }
 
 // Row i of the target, eight columns at a time. Each side has loops of its own, so that the compiler knows in them what turns when.
+#[inline(always)]
 fn wide_row<R: Real, const LEFT: bool>(ops: &Operands<R>, plan: Folded, c: &mut [R::Cell], i: usize)
     requires { CanRunFolded R.numbers plan ops.now c.old × (plan.turn ≡ upper_turn LEFT) × (i < plan.target.rows) × (8 ≤ plan.target.cols) }
     ensures { c.new ≡ update_row (kind R.numbers) plan.target everywhere (folded_work R.numbers R.multipliers plan ops.now) i plan.target.cols c.old }
@@ -47,6 +49,7 @@ fn wide_row<R: Real, const LEFT: bool>(ops: &Operands<R>, plan: Folded, c: &mut 
 }
 
 // The whole target, A on the side that LEFT says.
+#[inline(always)]
 #[tactic(auto, using(product_plan::proofs::Steps::rows))]
 fn run_wide<R: Real, const LEFT: bool>(ops: &Operands<R>, plan: Folded, c: &mut [R::Cell])
     requires { CanRunFolded R.numbers plan ops.now c.old × (plan.turn ≡ upper_turn LEFT) × (8 ≤ plan.target.cols) }
@@ -58,6 +61,7 @@ fn run_wide<R: Real, const LEFT: bool>(ops: &Operands<R>, plan: Folded, c: &mut 
 }
 
 // The whole target, eight columns at a time.
+#[inline(always)]
 fn wide<R: Real>(side: Side, ops: &Operands<R>, u: View, vb: View, c: &mut [R::Cell], vc: View)
     requires { ReadySided side false UpLo.Upper u (R.numbers.count ops.now.a.now) vb (R.numbers.count ops.now.b.now) vc (R.numbers.count c.old) × (8 ≤ vc.cols) }
     ensures { c.new ≡ sided_work (kind R.numbers) side false UpLo.Upper u vb vc (scale_by R.numbers R.multipliers ops.now.beta) (R.multipliers.times ops.now.alpha) ops.now.a.now ops.now.b.now c.old }
@@ -75,6 +79,7 @@ fn wide<R: Real>(side: Side, ops: &Operands<R>, u: View, vb: View, c: &mut [R::C
 }
 
 // The sum of element (i, j) of a target that stands as a folded plan's does, or across it.
+#[inline(always)]
 fn across_sum<R: Real>(straight: bool, ops: &Operands<R>, plan: Folded, i: usize, j: usize) -> R
     requires { CanFold R.numbers plan ops.now × (cond straight i j < plan.target.rows) × (cond straight j i < plan.target.cols) }
     ensures { result ≡ across (kind R.numbers) straight (folded_product (kind R.numbers) plan ops.now.a.now ops.now.b.now) i j }
@@ -87,6 +92,7 @@ fn across_sum<R: Real>(straight: bool, ops: &Operands<R>, plan: Folded, i: usize
 }
 
 // Element (i, j) of a target v that stands as a folded plan's does, or across it.
+#[inline(always)]
 fn across_entry<R: Real>(
     straight: bool,
     ops: &Operands<R>,
@@ -103,6 +109,7 @@ fn across_entry<R: Real>(
 }
 
 // Row i of the target, element by element.
+#[inline(always)]
 #[tactic(auto, using(product_plan::proofs::Steps::rows))]
 fn across_row<R: Real>(
     straight: bool,
@@ -121,6 +128,7 @@ fn across_row<R: Real>(
 }
 
 // The whole target, element by element.
+#[inline(always)]
 #[tactic(auto, using(product_plan::proofs::Steps::rows))]
 fn across<R: Real>(straight: bool, ops: &Operands<R>, plan: Folded, c: &mut [R::Cell], v: View)
     requires { CanRunAcross R.numbers straight plan ops.now v c.old }
@@ -141,6 +149,7 @@ fn narrow<R: Real>(side: Side, ops: &Operands<R>, u: View, vb: View, c: &mut [R:
 }
 
 // symm's and hemm's target, with A's upper triangle in u.
+#[inline(always)]
 pub(crate) fn run<R: Real>(
     side: Side,
     ops: &Operands<R>,
