@@ -17,7 +17,6 @@ use slabs::{block_start, zeros};
 use view::{Answer, Trans, View};
 
 // Row i of the target, four columns at a time.
-#[inline(always)]
 fn wide_row(ops: &Operands<Complex>, plan: Plan, c: &mut [f64], i: usize)
     requires { CanRun complex_numbers plan ops.now c.old × (i < plan.target.rows) × (4 ≤ plan.target.cols) }
     ensures { c.new ≡ update_row complex plan.target everywhere (plan_work complex_numbers complex_multipliers plan ops.now) i plan.target.cols c.old }
@@ -31,7 +30,6 @@ fn wide_row(ops: &Operands<Complex>, plan: Plan, c: &mut [f64], i: usize)
 }
 
 // The whole target, four columns at a time.
-#[inline(always)]
 #[tactic(auto, using(product_plan::proofs::Steps::rows))]
 fn run_wide(ops: &Operands<Complex>, plan: Plan, c: &mut [f64])
     requires { CanRun complex_numbers plan ops.now c.old × (4 ≤ plan.target.cols) }
@@ -43,7 +41,6 @@ fn run_wide(ops: &Operands<Complex>, plan: Plan, c: &mut [f64])
 }
 
 // The whole target.
-#[inline(always)]
 fn run(ops: &Operands<Complex>, plan: Plan, c: &mut [f64])
     requires { CanRun complex_numbers plan ops.now c.old }
     ensures { c.new ≡ update complex plan.target everywhere (plan_work complex_numbers complex_multipliers plan ops.now) c.old }
@@ -56,7 +53,6 @@ fn run(ops: &Operands<Complex>, plan: Plan, c: &mut [f64])
 }
 
 // C ← alpha op(A) op(B) + beta C
-#[inline(always)]
 pub fn gemm(
     ta: Trans,
     tb: Trans,

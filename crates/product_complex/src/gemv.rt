@@ -17,7 +17,6 @@ use product_plan::{Operands, Plan, gemv_plan};
 use view::{Answer, Trans, View};
 
 // Element (i, j) of the target, with no right factor conjugated.
-#[inline(always)]
 #[tactic(auto, using(product_plan::proofs::Steps::sums))]
 fn column_entry(ops: &Operands<Complex>, plan: Plan, c: &mut [f64], i: usize, j: usize)
     requires { CanRun complex_numbers plan ops.now c.old × (i < plan.target.rows) × (j < plan.target.cols) × (plan.factors.right_conj ≡ false) }
@@ -28,7 +27,6 @@ fn column_entry(ops: &Operands<Complex>, plan: Plan, c: &mut [f64], i: usize, j:
 }
 
 // The whole target, which is a column.
-#[inline(always)]
 #[tactic(auto, using(product_plan::proofs::Steps::elements))]
 fn run_column(ops: &Operands<Complex>, plan: Plan, c: &mut [f64])
     requires { CanRun complex_numbers plan ops.now c.old × (plan.target.cols ≡ 1) × (plan.factors.right_conj ≡ false) }
@@ -40,7 +38,6 @@ fn run_column(ops: &Operands<Complex>, plan: Plan, c: &mut [f64])
 }
 
 // y ← alpha op(A) x + beta y
-#[inline(always)]
 pub fn gemv(
     trans: Trans,
     alpha: Complex,

@@ -18,7 +18,6 @@ use product_plan::{Folded, Operands, hemv_plan};
 use view::{Answer, UpLo, View};
 
 // Element (i, j) of a folded plan's target, with no right factor conjugated.
-#[inline(always)]
 #[tactic(auto, using(product_plan::proofs::Steps::sums))]
 fn hemv_entry(ops: &Operands<Complex>, plan: Folded, c: &mut [f64], i: usize, j: usize)
     requires { CanRunFolded complex_numbers plan ops.now c.old × ByRow plan × (i < plan.target.rows) × (j < plan.target.cols) }
@@ -31,7 +30,6 @@ fn hemv_entry(ops: &Operands<Complex>, plan: Folded, c: &mut [f64], i: usize, j:
 }
 
 // The whole target, which is a column.
-#[inline(always)]
 #[tactic(auto, using(product_plan::proofs::Steps::elements))]
 fn run_left_column(ops: &Operands<Complex>, plan: Folded, c: &mut [f64])
     requires { CanRunFolded complex_numbers plan ops.now c.old × ByRow plan × (plan.target.cols ≡ 1) }
@@ -43,7 +41,6 @@ fn run_left_column(ops: &Operands<Complex>, plan: Folded, c: &mut [f64])
 }
 
 // y ← alpha A x + beta y, A Hermitian
-#[inline(always)]
 pub fn hemv(
     uplo: UpLo,
     alpha: Complex,

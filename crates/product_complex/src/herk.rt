@@ -12,7 +12,6 @@ use product_plan::{Operands, herk_plan};
 use view::{Answer, Trans, UpLo, View};
 
 // C ← alpha A Aᴴ + beta C or alpha Aᴴ A + beta C, in the named triangle, alpha and beta real
-#[inline(always)]
 pub fn herk(
     uplo: UpLo,
     trans: Trans,

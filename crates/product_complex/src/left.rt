@@ -10,7 +10,6 @@ use product_plan::{Factors, Operands};
 use slabs::{elem, elem_conj};
 
 // The sum with the terms of element (i, j) from `from` to before `end` added.
-#[inline(always)]
 #[tactic(auto, using(product_plan::proofs::Steps::terms))]
 pub(crate) fn add_left(
     ops: &Operands<Complex>,

@@ -13,7 +13,6 @@ use product_plan::Operands;
 use view::{Answer, Side, UpLo, View};
 
 // C ← alpha A B + beta C or alpha B A + beta C, A symmetric
-#[inline(always)]
 pub fn symm(
     side: Side,
     uplo: UpLo,

@@ -12,7 +12,6 @@ use product_plan::{Operands, syrk_plan};
 use view::{Answer, Trans, UpLo, View};
 
 // C ← alpha A Aᵀ + beta C or alpha Aᵀ A + beta C, in the named triangle
-#[inline(always)]
 pub fn syrk(
     uplo: UpLo,
     trans: Trans,

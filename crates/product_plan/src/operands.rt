@@ -29,7 +29,6 @@ pub struct Operands<'a, N: Number> {
 
 impl<'a, N: Number> Operands<'a, N> {
     // The same with the left factors' slab for the right ones', and the other way round.
-    #[inline(always)]
     pub fn exchanged(&self) -> Operands<'a, N>
         ensures { (result.a.now ≡ self.now.b.now) × (result.b.now ≡ self.now.a.now) × (result.alpha ≡ self.now.alpha) × (result.beta ≡ self.now.beta) }
     {
@@ -42,7 +41,6 @@ impl<'a, N: Number> Operands<'a, N> {
     }
 
     // Term p of element (i, j).
-    #[inline(always)]
     pub fn term(&self, f: Factors, i: usize, j: usize, p: usize) -> N
         requires { Within f.left (N.numbers.count self.now.a.now) i p × Within f.right (N.numbers.count self.now.b.now) p j }
         ensures { result ≡ term (kind N.numbers) f self.now.a.now self.now.b.now i j p }
@@ -52,7 +50,6 @@ impl<'a, N: Number> Operands<'a, N> {
     }
 
     // The sum with the terms of element (i, j) from `from` to before `end` added.
-    #[inline(always)]
     #[tactic(auto, using(crate::proofs::Steps::terms))]
     pub fn add_run(&self, f: Factors, i: usize, j: usize, from: usize, end: usize, sum: N) -> N
         requires { FactorsWithin f (N.numbers.count self.now.a.now) (N.numbers.count self.now.b.now) i j from end }
@@ -66,7 +63,6 @@ impl<'a, N: Number> Operands<'a, N> {
     }
 
     // W sums, those of elements (i, j) to before (i, j + W), with the terms from `from` to before `end` added.
-    #[inline(always)]
     pub fn add_lanes<const W: usize>(
         &self,
         f: Factors,
@@ -99,7 +95,6 @@ impl<'a, N: Number> Operands<'a, N> {
     }
 
     // Elements (i, first) to before (i, end) of a target, with the sums of those from column `from` on.
-    #[inline(always)]
     #[tactic(auto, using(crate::proofs::Steps::columns))]
     pub fn settle_block<const W: usize>(
         &self,
@@ -120,7 +115,6 @@ impl<'a, N: Number> Operands<'a, N> {
     }
 
     // Element (i, j) of the target.
-    #[inline(always)]
     #[tactic(auto, using(crate::proofs::Steps::sums))]
     pub fn entry(&self, plan: Plan, c: &mut [N::Cell], i: usize, j: usize)
         requires { CanRun N.numbers plan self.now c.old × (i < plan.target.rows) × (j < plan.target.cols) }
@@ -131,7 +125,6 @@ impl<'a, N: Number> Operands<'a, N> {
     }
 
     // Row i of the target.
-    #[inline(always)]
     #[tactic(auto, using(crate::proofs::Steps::rows))]
     pub fn row(&self, plan: Plan, c: &mut [N::Cell], i: usize)
         requires { CanRun N.numbers plan self.now c.old × (i < plan.target.rows) }
@@ -143,7 +136,6 @@ impl<'a, N: Number> Operands<'a, N> {
     }
 
     // The whole target.
-    #[inline(always)]
     #[tactic(auto, using(crate::proofs::Steps::rows))]
     pub fn run(&self, plan: Plan, c: &mut [N::Cell])
         requires { CanRun N.numbers plan self.now c.old }
@@ -155,7 +147,6 @@ impl<'a, N: Number> Operands<'a, N> {
     }
 
     // Row i of the target's named triangle.
-    #[inline(always)]
     #[tactic(auto, using(crate::proofs::Steps::columns))]
     fn triangle_row(&self, uplo: UpLo, plan: Plan, c: &mut [N::Cell], i: usize)
         requires { CanRun N.numbers plan self.now c.old × (i < plan.target.rows) × (i < plan.target.cols) }
@@ -167,7 +158,6 @@ impl<'a, N: Number> Operands<'a, N> {
     }
 
     // The target's whole named triangle.
-    #[inline(always)]
     #[tactic(auto, using(crate::proofs::Steps::rows))]
     pub fn run_triangle(&self, uplo: UpLo, plan: Plan, c: &mut [N::Cell])
         requires { CanRun N.numbers plan self.now c.old × (plan.target.rows ≡ plan.target.cols) }
@@ -199,7 +189,6 @@ impl<'a, N: Number> Operands<'a, N> {
     }
 
     // Element (i, j) of a folded plan's target, where the sum turns after k terms.
-    #[inline(always)]
     pub fn turned_entry(&self, plan: Folded, k: usize, c: &mut [N::Cell], i: usize, j: usize)
         requires { CanRunFolded N.numbers plan self.now c.old × (i < plan.target.rows) × (j < plan.target.cols) × (k ≡ terms_before plan.turn i j) }
         ensures { c.new ≡ replaced (kind N.numbers) plan.target i j (folded_work N.numbers N.multipliers plan self.now i j) c.old }
@@ -208,7 +197,6 @@ impl<'a, N: Number> Operands<'a, N> {
     }
 
     // The same, with its turn found.
-    #[inline(always)]
     pub fn folded_entry(&self, plan: Folded, c: &mut [N::Cell], i: usize, j: usize)
         requires { CanRunFolded N.numbers plan self.now c.old × (i < plan.target.rows) × (j < plan.target.cols) }
         ensures { c.new ≡ replaced (kind N.numbers) plan.target i j (folded_work N.numbers N.multipliers plan self.now i j) c.old }

@@ -13,7 +13,6 @@ use product_plan::{Factors, Operands, Plan};
 use slabs::{block_end, block_start, elem, place, plus_beside, zeros};
 
 // The sums of elements (i, j) to (i, j + 7), with the terms from `from` to before `end` added, where the columns of the right factor lie side by side: the compiler then takes several at once.
-#[inline(always)]
 fn add_beside<R: Real>(
     ops: &Operands<R>,
     f: Factors,
@@ -35,7 +34,6 @@ fn add_beside<R: Real>(
 }
 
 // The same, chosen by how they lie.
-#[inline(always)]
 pub(crate) fn add_eight<R: Real>(
     ops: &Operands<R>,
     f: Factors,
@@ -56,7 +54,6 @@ pub(crate) fn add_eight<R: Real>(
 }
 
 // Elements (i, first) to before (i, end) of the target.
-#[inline(always)]
 pub(crate) fn blocks<R: Real>(
     ops: &Operands<R>,
     plan: Plan,

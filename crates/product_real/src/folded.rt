@@ -15,7 +15,6 @@ use product_plan::{Folded, Operands};
 use slabs::zeros;
 
 // Term p of element (i, j), of which the terms from k on are after the turn.
-#[inline(always)]
 fn folded_term<R: Real>(
     ops: &Operands<R>,
     plan: Folded,
@@ -35,7 +34,6 @@ fn folded_term<R: Real>(
 }
 
 // The sums of elements (i, j) to (i, j + 7), A on the right, each with its term p added, before its turn or after it.
-#[inline(always)]
 fn plus_turning<R: Real>(
     ops: &Operands<R>,
     plan: Folded,
@@ -55,7 +53,6 @@ fn plus_turning<R: Real>(
 }
 
 // The same with the terms from `from` to before `end`.
-#[inline(always)]
 fn add_turning<R: Real>(
     ops: &Operands<R>,
     plan: Folded,
@@ -76,7 +73,6 @@ fn add_turning<R: Real>(
 }
 
 // The sums of elements (i, j) to (i, j + 7), A on the left: all turn at row i.
-#[inline(always)]
 pub(crate) fn left_eight<R: Real>(ops: &Operands<R>, plan: Folded, i: usize, j: usize) -> [R; 8]
     requires { CanFold R.numbers plan ops.now × (plan.turn ≡ left_turn) × (i < plan.target.rows) × (j + 8 ≤ plan.target.cols) }
     ensures { Lanes (kind R.numbers) 8 result (λ t. folded_product (kind R.numbers) plan ops.now.a.now ops.now.b.now i (j + t)) }
@@ -86,7 +82,6 @@ pub(crate) fn left_eight<R: Real>(ops: &Operands<R>, plan: Folded, i: usize, j: 
 }
 
 // The same with A on the right: they turn one after the other, from the first one's column on.
-#[inline(always)]
 pub(crate) fn right_eight<R: Real>(ops: &Operands<R>, plan: Folded, i: usize, j: usize) -> [R; 8]
     requires { CanFold R.numbers plan ops.now × (plan.turn ≡ right_turn) × (i < plan.target.rows) × (j + 8 ≤ plan.target.cols) × (plan.target.cols ≤ limit) }
     ensures { Lanes (kind R.numbers) 8 result (λ t. folded_product (kind R.numbers) plan ops.now.a.now ops.now.b.now i (j + t)) }

@@ -16,7 +16,6 @@ use product_plan::{Operands, Plan, gemm_plan};
 use view::{Answer, Trans, View};
 
 // The whole target, eight columns at a time.
-#[inline(always)]
 #[tactic(auto, using(product_plan::proofs::Steps::rows))]
 fn run_wide<R: Real>(ops: &Operands<R>, plan: Plan, c: &mut [R::Cell])
     requires { CanRun R.numbers plan ops.now c.old × (8 ≤ plan.target.cols) }
@@ -28,7 +27,6 @@ fn run_wide<R: Real>(ops: &Operands<R>, plan: Plan, c: &mut [R::Cell])
 }
 
 // The whole target.
-#[inline(always)]
 fn run<R: Real>(ops: &Operands<R>, plan: Plan, c: &mut [R::Cell])
     requires { CanRun R.numbers plan ops.now c.old }
     ensures { c.new ≡ update (kind R.numbers) plan.target everywhere (plan_work R.numbers R.multipliers plan ops.now) c.old }
@@ -41,7 +39,6 @@ fn run<R: Real>(ops: &Operands<R>, plan: Plan, c: &mut [R::Cell])
 }
 
 // C ← alpha op(A) op(B) + beta C
-#[inline(always)]
 pub fn gemm<R: Real>(
     ta: Trans,
     tb: Trans,

@@ -21,7 +21,6 @@ use slabs::{block_start, elem, plus_lanes, zeros};
 use view::{Answer, Trans, View};
 
 // The sums of the eight elements of a column from row i on: op(A)'s rows lie apart as its transpose's columns do.
-#[inline(always)]
 fn column_sums<R: Real>(ops: &Operands<R>, plan: Plan, i: usize) -> [R; 8]
     requires { Reads plan.factors (R.numbers.count ops.now.a.now) (R.numbers.count ops.now.b.now) plan.target.rows plan.target.cols plan.terms × (i + 8 ≤ plan.target.rows) × (plan.target.cols ≡ 1) }
     ensures { Lanes (kind R.numbers) 8 result (λ t. product (kind R.numbers) plan ops.now.a.now ops.now.b.now (i + t) 0) }
@@ -35,7 +34,6 @@ fn column_sums<R: Real>(ops: &Operands<R>, plan: Plan, i: usize) -> [R; 8]
 }
 
 // Elements `first` to before from + 8 of a column, with the sums of those from `from` on.
-#[inline(always)]
 #[tactic(auto, using(product_plan::proofs::Steps::elements_from))]
 fn settle_column<R: Real>(
     ops: &Operands<R>,
@@ -54,7 +52,6 @@ fn settle_column<R: Real>(
 }
 
 // The whole target, which is a column, eight rows at a time.
-#[inline(always)]
 fn column_wide<R: Real>(ops: &Operands<R>, plan: Plan, c: &mut [R::Cell])
     requires { CanRun R.numbers plan ops.now c.old × (plan.target.cols ≡ 1) × (8 ≤ plan.target.rows) }
     ensures { c.new ≡ update (kind R.numbers) plan.target everywhere (plan_work R.numbers R.multipliers plan ops.now) c.old }
@@ -67,7 +64,6 @@ fn column_wide<R: Real>(ops: &Operands<R>, plan: Plan, c: &mut [R::Cell])
 }
 
 // The whole target, which is a column, element by element.
-#[inline(always)]
 #[tactic(auto, using(product_plan::proofs::Steps::elements))]
 fn column_plain<R: Real>(ops: &Operands<R>, plan: Plan, c: &mut [R::Cell])
     requires { CanRun R.numbers plan ops.now c.old × (plan.target.cols ≡ 1) }
@@ -79,7 +75,6 @@ fn column_plain<R: Real>(ops: &Operands<R>, plan: Plan, c: &mut [R::Cell])
 }
 
 // The whole target, which is a column.
-#[inline(always)]
 fn run_column<R: Real>(ops: &Operands<R>, plan: Plan, c: &mut [R::Cell])
     requires { CanRun R.numbers plan ops.now c.old × (plan.target.cols ≡ 1) }
     ensures { c.new ≡ update (kind R.numbers) plan.target everywhere (plan_work R.numbers R.multipliers plan ops.now) c.old }
@@ -92,7 +87,6 @@ fn run_column<R: Real>(ops: &Operands<R>, plan: Plan, c: &mut [R::Cell])
 }
 
 // y ← alpha op(A) x + beta y
-#[inline(always)]
 pub fn gemv<R: Real>(
     trans: Trans,
     alpha: R,

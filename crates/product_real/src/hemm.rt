@@ -13,7 +13,6 @@ use product_plan::{Operands, upper_view};
 use view::{Answer, Side, UpLo, View};
 
 // C ← alpha A B + beta C or alpha B A + beta C, A Hermitian
-#[inline(always)]
 pub fn hemm<R: Real>(
     side: Side,
     uplo: UpLo,

@@ -15,7 +15,6 @@ use product_plan::{Folded, Operands, hemv_plan};
 use view::{Answer, UpLo, View};
 
 // The whole target, which is a column.
-#[inline(always)]
 #[tactic(auto, using(product_plan::proofs::Steps::elements))]
 fn run_left_column<R: Real>(ops: &Operands<R>, plan: Folded, c: &mut [R::Cell])
     requires { CanRunFolded R.numbers plan ops.now c.old × (plan.target.cols ≡ 1) }
@@ -27,7 +26,6 @@ fn run_left_column<R: Real>(ops: &Operands<R>, plan: Folded, c: &mut [R::Cell])
 }
 
 // y ← alpha A x + beta y, A Hermitian
-#[inline(always)]
 pub fn hemv<R: Real>(
     uplo: UpLo,
     alpha: R,

@@ -1,5 +1,4 @@
-// The products of real numbers, generic over their type, eight sums side by side. Each kernel is put into its caller whole: what a call reads and
-// writes then stays in registers. Translated from control-rs; NOTICE names the source.
+// The products of real numbers, eight sums side by side: generic over their type. Translated from control-rs; NOTICE names the source.
 
 #![tactic(auto)]
 

@@ -17,7 +17,6 @@ use slabs::block_start;
 use view::{Side, UpLo, View};
 
 // The sums of elements (i, j) to (i, j + 7), A on the side that LEFT says.
-#[inline(always)]
 fn side_eight<R: Real, const LEFT: bool>(
     ops: &Operands<R>,
     plan: Folded,
@@ -35,7 +34,6 @@ fn side_eight<R: Real, const LEFT: bool>(
 }
 
 // Row i of the target, eight columns at a time. Each side has loops of its own, so that the compiler knows in them what turns when.
-#[inline(always)]
 fn wide_row<R: Real, const LEFT: bool>(ops: &Operands<R>, plan: Folded, c: &mut [R::Cell], i: usize)
     requires { CanRunFolded R.numbers plan ops.now c.old × (plan.turn ≡ upper_turn LEFT) × (i < plan.target.rows) × (8 ≤ plan.target.cols) }
     ensures { c.new ≡ update_row (kind R.numbers) plan.target everywhere (folded_work R.numbers R.multipliers plan ops.now) i plan.target.cols c.old }
@@ -49,7 +47,6 @@ fn wide_row<R: Real, const LEFT: bool>(ops: &Operands<R>, plan: Folded, c: &mut 
 }
 
 // The whole target, A on the side that LEFT says.
-#[inline(always)]
 #[tactic(auto, using(product_plan::proofs::Steps::rows))]
 fn run_wide<R: Real, const LEFT: bool>(ops: &Operands<R>, plan: Folded, c: &mut [R::Cell])
     requires { CanRunFolded R.numbers plan ops.now c.old × (plan.turn ≡ upper_turn LEFT) × (8 ≤ plan.target.cols) }
@@ -61,7 +58,7 @@ fn run_wide<R: Real, const LEFT: bool>(ops: &Operands<R>, plan: Folded, c: &mut 
 }
 
 // The whole target, eight columns at a time.
-#[inline(always)]
+#[inline(never)]
 fn wide<R: Real>(side: Side, ops: &Operands<R>, u: View, vb: View, c: &mut [R::Cell], vc: View)
     requires { ReadySided side false UpLo.Upper u (R.numbers.count ops.now.a.now) vb (R.numbers.count ops.now.b.now) vc (R.numbers.count c.old) × (8 ≤ vc.cols) }
     ensures { c.new ≡ sided_work (kind R.numbers) side false UpLo.Upper u vb vc (scale_by R.numbers R.multipliers ops.now.beta) (R.multipliers.times ops.now.alpha) ops.now.a.now ops.now.b.now c.old }
@@ -78,17 +75,21 @@ fn wide<R: Real>(side: Side, ops: &Operands<R>, u: View, vb: View, c: &mut [R::C
     }
 }
 
+// The first of two numbers, or the second.
+#[inline(always)]
+fn chosen(first: bool, x: usize, y: usize) -> usize
+    ensures { result ≡ cond first x y }
+{
+    if first { x } else { y }
+}
+
 // The sum of element (i, j) of a target that stands as a folded plan's does, or across it.
 #[inline(always)]
 fn across_sum<R: Real>(straight: bool, ops: &Operands<R>, plan: Folded, i: usize, j: usize) -> R
     requires { CanFold R.numbers plan ops.now × (cond straight i j < plan.target.rows) × (cond straight j i < plan.target.cols) }
     ensures { result ≡ across (kind R.numbers) straight (folded_product (kind R.numbers) plan ops.now.a.now ops.now.b.now) i j }
 {
-    if straight {
-        ops.folded_sum(plan, i, j)
-    } else {
-        ops.folded_sum(plan, j, i)
-    }
+    ops.folded_sum(plan, chosen(straight, i, j), chosen(straight, j, i))
 }
 
 // Element (i, j) of a target v that stands as a folded plan's does, or across it.
@@ -145,7 +146,13 @@ fn narrow<R: Real>(side: Side, ops: &Operands<R>, u: View, vb: View, c: &mut [R:
     requires { CanRunAcross R.numbers (is_left side) (element_plan side u vb vc) ops.now vc c.old }
     ensures { c.new ≡ update (kind R.numbers) vc everywhere (across_work R.numbers R.multipliers (is_left side) (element_plan side u vb vc) ops.now) c.old }
 {
-    across(is_left(side), ops, element_plan(side, u, vb, vc), c, vc);
+    let own: Operands<R> = Operands {
+        a: ops.a,
+        b: ops.b,
+        alpha: ops.alpha,
+        beta: ops.beta,
+    };
+    across(is_left(side), &own, element_plan(side, u, vb, vc), c, vc);
 }
 
 // symm's and hemm's target, with A's upper triangle in u.

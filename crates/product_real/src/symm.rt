@@ -13,7 +13,6 @@ use product_plan::{Operands, upper_view};
 use view::{Answer, Side, UpLo, View};
 
 // C ← alpha A B + beta C or alpha B A + beta C, A symmetric
-#[inline(always)]
 pub fn symm<R: Real>(
     side: Side,
     uplo: UpLo,

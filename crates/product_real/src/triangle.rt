@@ -12,7 +12,6 @@ use product_plan::{Operands, Plan};
 use view::UpLo;
 
 // Row i of the triangle, eight columns at a time.
-#[inline(always)]
 fn wide_row<R: Real>(ops: &Operands<R>, uplo: UpLo, plan: Plan, c: &mut [R::Cell], i: usize)
     requires { CanRun R.numbers plan ops.now c.old × (i < plan.target.rows) × (i < plan.target.cols) × (8 ≤ plan.target.cols) }
     ensures { c.new ≡ update_row (kind R.numbers) plan.target (in_triangle uplo) (plan_work R.numbers R.multipliers plan ops.now) i plan.target.cols c.old }
@@ -22,7 +21,6 @@ fn wide_row<R: Real>(ops: &Operands<R>, uplo: UpLo, plan: Plan, c: &mut [R::Cell
 }
 
 // The whole triangle, eight columns at a time.
-#[inline(always)]
 #[tactic(auto, using(product_plan::proofs::Steps::rows))]
 fn run_wide<R: Real>(ops: &Operands<R>, uplo: UpLo, plan: Plan, c: &mut [R::Cell])
     requires { CanRun R.numbers plan ops.now c.old × (plan.target.rows ≡ plan.target.cols) × (8 ≤ plan.target.cols) }
@@ -34,7 +32,6 @@ fn run_wide<R: Real>(ops: &Operands<R>, uplo: UpLo, plan: Plan, c: &mut [R::Cell
 }
 
 // The whole triangle.
-#[inline(always)]
 pub(crate) fn run<R: Real>(ops: &Operands<R>, uplo: UpLo, plan: Plan, c: &mut [R::Cell])
     requires { CanRun R.numbers plan ops.now c.old × (plan.target.rows ≡ plan.target.cols) }
     ensures { c.new ≡ update (kind R.numbers) plan.target (in_triangle uplo) (plan_work R.numbers R.multipliers plan ops.now) c.old }

@@ -16,9 +16,6 @@ use rank_plan::Plan;
 use slabs::{block_end, block_start, elem_conj, place, plus_conj_lanes, zeros};
 use view::View;
 
-// How many columns of a row are summed side by side.
-pub(crate) const LANES: usize = 8;
-
 // An update by two matrices, which have what the plan reads of them.
 #[derive(Drop)]
 pub(crate) struct Paired<'a, N: Number, W: Weigh<N>> {
@@ -177,19 +174,33 @@ impl<'a, N: Number, W: Weigh<N>> Paired<'a, N, W> {
         }
     }
 
-    // The whole target, its rows L columns at a time where they are so many.
+    // The whole target, its rows L columns at a time where they are at least FROM.
     #[inline(always)]
-    pub(crate) fn update<const L: usize>(&self, c: &mut [N::Cell])
+    fn rows<const L: usize, const FROM: usize>(&self, c: &mut [N::Cell])
         requires square { SquareWithin self.now.plan.target (N.numbers.count c.old) }
         requires some { 0 < L }
+        requires wide { L ≤ FROM }
         ensures { c.new ≡ update (kind N.numbers) self.now.plan.target (in_triangle self.now.plan.uplo) (paired_change (kind N.numbers) self.now.plan self.now.a.now self.now.b.now (W.weights self.now.weigh) (scale_by N.numbers N.multipliers self.now.beta)) c.old }
     {
         for i in 0..self.plan.target.rows {
-            if L <= self.plan.target.cols {
+            if FROM <= self.plan.target.cols {
                 self.wide_row::<L>(c, i);
             } else {
                 self.narrow_row(c, i);
             }
+        }
+    }
+
+    // The whole target. A const argument has to be a number, and four complex sums gain only from sixteen columns on.
+    #[inline(always)]
+    pub(crate) fn update(&self, c: &mut [N::Cell])
+        requires { SquareWithin self.now.plan.target (N.numbers.count c.old) }
+        ensures { c.new ≡ update (kind N.numbers) self.now.plan.target (in_triangle self.now.plan.uplo) (paired_change (kind N.numbers) self.now.plan self.now.a.now self.now.b.now (W.weights self.now.weigh) (scale_by N.numbers N.multipliers self.now.beta)) c.old }
+    {
+        if N::LANES == 4 {
+            self.rows::<4, 16>(c);
+        } else {
+            self.rows::<8, 8>(c);
         }
     }
 }

@@ -5,7 +5,7 @@ ghost use Rattle.slabs.specs.Elem.{lent};
 ghost use Rattle.blas.specs.Outcome.{Gives};
 ghost use Rattle.blas.specs.Syr2k;
 
-use crate::pairs::{LANES, Paired};
+use crate::pairs::Paired;
 use crate::weights::SumWeighed;
 use call_check::check_syr2k;
 use call_check::quick::quick_syr2k;
@@ -42,7 +42,7 @@ pub fn syr2k<N: Number>(
             a,
             b,
         };
-        paired.update::<LANES>(c);
+        paired.update(c);
     }
     answer
 }

@@ -99,19 +99,19 @@ pub fn same<T: Cell>(bytes: &[u8], at: usize, s: &[T]) -> bool {
 
 impl Record<'_> {
     // Slab k before the call, in the first places of `space`.
-    pub fn slab<'a, T: Cell>(self, k: u8, space: &'a mut [T]) -> &'a mut [T] {
+    pub fn slab<'a, T: Cell>(self, k: usize, space: &'a mut [T]) -> &'a mut [T] {
         fill(self.bytes, self.slab_place(k), space);
         let n = self.length(k).min(space.len());
         &mut space[..n]
     }
 
     // Whether slab k is as it was before the call.
-    pub fn kept<T: Cell>(self, k: u8, s: &[T]) -> bool {
+    pub fn kept<T: Cell>(self, k: usize, s: &[T]) -> bool {
         same(self.bytes, self.slab_place(k), s)
     }
 
     // Part k of the scalars: alpha's two parts, then beta's.
-    pub fn scalar<T: Cell>(self, k: u8) -> T {
+    pub fn scalar<T: Cell>(self, k: usize) -> T {
         T::of_pattern(T::bits_at(self.bytes, record::scalar_place(k), 0))
     }
 
@@ -127,7 +127,7 @@ impl Record<'_> {
     // call, and leaves the others. It gives none where the list has no such routine.
     pub fn agrees<T: Cell, F: FnOnce(&[T], &[T], &mut [T]) -> Option<Answer>>(
         self,
-        target: u8,
+        target: usize,
         call: F,
     ) -> bool
         requires { F.IsAlwaysCallable call }

@@ -1,5 +1,5 @@
 // The fields of a record. A field past the record's end reads as 0.
-ghost use Rattle.std.specs.Prelude.{◌≡◌, ◌≤◌, ◌==◌, get_or, IfSome};
+ghost use Rattle.std.specs.Prelude.{◌≡◌, ◌≤◌, ◌<◌, ◌==◌, get_or, IfSome};
 ghost use Rattle.recorded_calls.specs.Numbers.{Decodes, routine_number, kind_number, given_number};
 
 use crate::routine::{Kind, Routine, UnknownNumber};
@@ -26,23 +26,17 @@ pub struct Arg {
 }
 
 impl Record<'_> {
-    fn byte(self, at: usize) -> u8
-        ensures { result ≡ get_or self.entry.bytes.now at 0 }
-    {
-        byte(self.bytes, at)
-    }
-
     pub fn routine(self) -> Result<Routine, UnknownNumber>
         ensures { Decodes routine_number 16 (get_or self.entry.bytes.now 0 0) result }
     {
-        Routine::try_from(self.byte(0))
+        Routine::try_from(byte(self.bytes, 0))
     }
 
-    // The number of the answer of the call.
+    // The number of the answer of the call, which in a list may be any.
     pub fn answer(self) -> u8
         ensures { result ≡ get_or self.entry.bytes.now 2 0 }
     {
-        self.byte(2)
+        byte(self.bytes, 2)
     }
 
     // Whether the answer is a call's, which gave none where the list has no such routine.
@@ -53,41 +47,48 @@ impl Record<'_> {
     }
 
     // The number of views.
-    fn views(self) -> u8
-        ensures { result ≡ get_or self.entry.bytes.now 3 0 }
+    fn views(self) -> usize
+        ensures value { result ≡ get_or self.entry.bytes.now 3 0 }
+        ensures bound { result < 256 }
     {
-        self.byte(3)
+        usize::from(byte(self.bytes, 3))
     }
 
     // The number of the target's view, which is the last.
-    pub fn target(self) -> u8 {
+    pub fn target(self) -> usize
+        ensures { result < 256 }
+    {
         self.views().saturating_sub(1)
     }
 
-    // Where the call's two numbers in the counts of a list are: its routine's, then its kind's.
+    // Where the counts of the call's routine and kind are among those of a list.
     pub(crate) fn slot(self) -> usize {
-        4 * usize::from(self.byte(0)) + usize::from(self.byte(1))
+        4 * usize::from(byte(self.bytes, 0)) + usize::from(byte(self.bytes, 1))
     }
 
-    // Flag k of the routine's arguments.
-    fn flag(self, k: u8) -> u8 {
-        self.byte(4 + usize::from(k))
+    // Flag k of the routine's arguments; `last` where no flag has its number.
+    fn flag<F: TryFrom<u8> + Drop>(self, k: usize, last: F) -> F
+    where
+        F::Error: Drop,
+    {
+        let flags = self.bytes.get(4..).unwrap_or(&[]);
+        F::try_from(byte(flags, k)).unwrap_or(last)
     }
 
-    pub fn trans(self, k: u8) -> Trans {
-        Trans::try_from(self.flag(k)).unwrap_or(Trans::ConjTrans)
+    pub fn trans(self, k: usize) -> Trans {
+        self.flag(k, Trans::ConjTrans)
     }
 
-    pub fn uplo(self, k: u8) -> UpLo {
-        UpLo::try_from(self.flag(k)).unwrap_or(UpLo::Lower)
+    pub fn uplo(self, k: usize) -> UpLo {
+        self.flag(k, UpLo::Lower)
     }
 
-    pub fn diag(self, k: u8) -> Diag {
-        Diag::try_from(self.flag(k)).unwrap_or(Diag::Unit)
+    pub fn diag(self, k: usize) -> Diag {
+        self.flag(k, Diag::Unit)
     }
 
-    pub fn side(self, k: u8) -> Side {
-        Side::try_from(self.flag(k)).unwrap_or(Side::Right)
+    pub fn side(self, k: usize) -> Side {
+        self.flag(k, Side::Right)
     }
 
     // The view and the length of its slab, in the 48 bytes that begin at `at`.
@@ -107,23 +108,23 @@ impl Record<'_> {
     }
 
     // View k of a list of checks, which has no scalars.
-    pub fn check_arg(self, k: u8) -> Arg {
+    pub fn check_arg(self, k: usize) -> Arg {
         self.arg_at(check_place(k))
     }
 
-    pub fn view(self, k: u8) -> View {
+    pub fn view(self, k: usize) -> View {
         self.arg_at(place(k)).view
     }
 
     // The cells of slab k, and no more than a slab may have.
-    pub(crate) fn length(self, k: u8) -> usize
+    pub(crate) fn length(self, k: usize) -> usize
         ensures { result ≤ 144 }
     {
         self.arg_at(place(k)).len.min(SLAB)
     }
 
     // The cells of the slabs before slab k.
-    fn cells_before(self, k: u8) -> usize
+    fn cells_before(self, k: usize) -> usize
         ensures { result ≤ 432 }
     {
         let mut cells = 0;
@@ -145,7 +146,7 @@ impl Record<'_> {
     }
 
     // Where the cells of slab k begin.
-    pub(crate) fn slab_place(self, k: u8) -> usize
+    pub(crate) fn slab_place(self, k: usize) -> usize
         ensures { result ≤ 16384 }
     {
         place(self.views()) + self.size(self.cells_before(k))
@@ -159,12 +160,12 @@ impl Record<'_> {
     }
 
     // The views that the record's routine has; where there is no such routine, 3.
-    fn routine_views(self) -> u8 {
+    fn routine_views(self) -> usize {
         self.routine().map_or(3, Routine::views)
     }
 
     // Whether slab k has no more cells than a slab may have.
-    fn fits(self, k: u8) -> bool {
+    fn fits(self, k: usize) -> bool {
         self.arg_at(place(k)).len <= SLAB
     }
 
@@ -182,7 +183,7 @@ impl Record<'_> {
     fn number_kind(self) -> Result<Kind, UnknownNumber>
         ensures { Decodes kind_number 4 (get_or self.entry.bytes.now 1 0) result }
     {
-        Kind::try_from(self.byte(1))
+        Kind::try_from(byte(self.bytes, 1))
     }
 
     // The number kind of a record of a call that is whole.
@@ -204,18 +205,18 @@ impl Record<'_> {
 }
 
 // Where view k begins in a list of checks.
-fn check_place(k: u8) -> usize {
-    8 + 48 * usize::from(k)
+fn check_place(k: usize) -> usize {
+    k.saturating_mul(48).saturating_add(8)
 }
 
 // Where view k begins in a list of calls, and where the cells begin, k being the number of views.
-fn place(k: u8) -> usize
-    ensures { result ≤ 12288 }
+fn place(k: usize) -> usize
+    ensures { k < 256 → result ≤ 12288 }
 {
-    40 + 48 * usize::from(k)
+    k.saturating_mul(48).saturating_add(40)
 }
 
 // Where part k of the scalars begins: alpha's two parts, then beta's.
-pub(crate) fn scalar_place(k: u8) -> usize {
-    8 + 8 * usize::from(k)
+pub(crate) fn scalar_place(k: usize) -> usize {
+    k.saturating_mul(8).saturating_add(8)
 }

@@ -91,7 +91,7 @@ impl TryFrom<u8> for Kind {
 
 impl Routine {
     // The views of a call, its target's last.
-    pub(crate) fn views(self) -> u8 {
+    pub(crate) fn views(self) -> usize {
         match self {
             Routine::Her
             | Routine::Trmv

@@ -1,4 +1,5 @@
-// Each routine's check as a kernel makes it, the quick tests first.
+// Each routine's check as a kernel makes it, the quick tests first. There is one function for each, also where two are alike,
+// since each promises what its own routine's check does.
 ghost use Rattle.std.specs.Prelude.{◌≡◌};
 ghost use Rattle.view.specs.Checks as specs;
 

@@ -15,7 +15,7 @@ fn main(rt: HostRuntime) -> Result<()> {
 }
 
 // The number of the target's view.
-const TARGET: u8 = 1;
+const TARGET: usize = 1;
 
 fn agrees(record: Record<'_>) -> bool {
     match record.kind() {

@@ -8,6 +8,8 @@ use std::{fmt, io};
 use text::Column;
 use view::{Answer, View};
 
+type Reader<'a> = ReadView<'a, f64>;
+
 fn main(rt: HostRuntime) -> io::Result<()> {
     let slab = [
         1.0, 2.0, 3.0, 4.0, 5.0, 6.0, 7.0, 8.0, 9.0, 10.0, 11.0, 12.0,
@@ -21,28 +23,29 @@ fn main(rt: HostRuntime) -> io::Result<()> {
 }
 
 fn shown(rt: &impl Print, slab: &[f64]) -> io::Result<()> {
+    let at = |start, rows, cols, rs, cs| Reader::new(slab, View::new(start, rows, cols, rs, cs));
     println!(rt; "start 0, 3 by 4, strides 4 and 1: by rows")?;
-    matrix(rt, slab, View::new(0, 3, 4, 4, 1))?;
+    matrix(rt, at(0, 3, 4, 4, 1))?;
     println!(rt; "start 0, 4 by 3, strides 1 and 4: its transpose")?;
-    matrix(rt, slab, View::new(0, 4, 3, 1, 4))?;
+    matrix(rt, at(0, 4, 3, 1, 4))?;
     println!(rt; "start 8, 3 by 4, strides -4 and 1: the rows upwards")?;
-    matrix(rt, slab, View::new(8, 3, 4, -4, 1))?;
+    matrix(rt, at(8, 3, 4, -4, 1))?;
     println!(rt; "start 11, 3 by 4, strides -4 and -1: from the last to the first")?;
-    matrix(rt, slab, View::new(11, 3, 4, -4, -1))?;
+    matrix(rt, at(11, 3, 4, -4, -1))?;
     println!(rt; "start 3, 3 by 2, strides 4 and -2: every other column, from the right")?;
-    matrix(rt, slab, View::new(3, 3, 2, 4, -2))?;
+    matrix(rt, at(3, 3, 2, 4, -2))?;
     println!(rt; "start 3, 2 by 3, strides 0 and 4: the last column, twice as a row")?;
-    matrix(rt, slab, View::new(3, 2, 3, 0, 4))
+    matrix(rt, at(3, 2, 3, 0, 4))
 }
 
 fn refusals(rt: &impl Print, slab: &[f64]) -> io::Result<()> {
+    let at = |start, rows, cols, rs, cs| Reader::new(slab, View::new(start, rows, cols, rs, cs));
     println!(rt; "start 7, 3 by 4, strides -4 and 1: off the slab")?;
-    matrix(rt, slab, View::new(7, 3, 4, -4, 1))?;
+    matrix(rt, at(7, 3, 4, -4, 1))?;
     println!(rt; "start 0, 65 by 0, strides 1 and 1: too large")?;
-    matrix(rt, slab, View::new(0, 65, 0, 1, 1))?;
+    matrix(rt, at(0, 65, 0, 1, 1))?;
     println!(rt; "by rows, element (2, 4)")?;
-    let by_rows = ReadView::<f64>::new(slab, View::new(0, 3, 4, 4, 1));
-    println!(rt; "{}", Cell(by_rows.get(2, 4)))
+    println!(rt; "{}", Cell(at(0, 3, 4, 4, 1).get(2, 4)))
 }
 
 fn complex(rt: &impl Print, slab: &[f64]) -> io::Result<()> {
@@ -59,12 +62,11 @@ fn complex(rt: &impl Print, slab: &[f64]) -> io::Result<()> {
 }
 
 // The matrix, or why its view is refused.
-fn matrix(rt: &impl Print, slab: &[f64], v: View) -> io::Result<()> {
-    let answer = read_view::check::<f64>(slab, v);
+fn matrix(rt: &impl Print, m: Reader<'_>) -> io::Result<()> {
+    let answer = read_view::check::<f64>(m.slab, m.view);
     if !answer.passed() {
         return println!(rt; "{}", Refusal(answer));
     }
-    let m = ReadView::<f64>::new(slab, v);
     for r in 0..m.rows() {
         for c in 0..m.cols() {
             print!(rt; "{}", Cell(m.get(r, c)))?;

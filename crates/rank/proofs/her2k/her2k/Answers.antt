@@ -12,8 +12,8 @@ invariant_of-paired g c =
       factors = search (her2k_factors n g.N.Number.multipliers p.uplo p.trans p.alpha (lent (kind n) p.a.now p.va) (lent (kind n) p.b.now p.vb) p.beta (lent (kind n) p.c.now p.vc));
     }
 
-pub update-requires-clause-square : goal.update-requires-clause-square
-update-requires-clause-square g c =
+pub update-requires : goal.update-requires
+update-requires g c =
     let n = g.N.Number.numbers in
     let p = c.args in
     search (her2k_square n g.N.Number.multipliers p.uplo p.trans p.alpha (lent (kind n) p.a.now p.va) (lent (kind n) p.b.now p.vb) p.beta (lent (kind n) p.c.now p.vc))

@@ -2,8 +2,8 @@
 use Rattle.std.proofs.Common.{◌∙◌}
 use Rattle.number.specs.Kind.{kind}
 use Rattle.slabs.proofs.LoopLaws.{rows-begun, rows_next}
-use Rattle.rank.proofs.pairs.Paired.update.Goals as goal
-use Rattle.rank.proofs.pairs.Paired.update.Goals.{then-self, else-self}
+use Rattle.rank.proofs.pairs.Paired.rows.Goals as goal
+use Rattle.rank.proofs.pairs.Paired.rows.Goals.{then-self, else-self}
 
 pub loop-i-init : goal.loop-i-init
 loop-i-init g c = rows-begun (kind g.N.Number.numbers) _ _ _ _

@@ -5,7 +5,7 @@ use Rattle.number.specs.Scaling.{scale_by}
 use Rattle.view.specs.Triangle.{in_triangle}
 use Rattle.slabs.specs.Update.{update_rows}
 use Rattle.rank_plan.specs.Change.{paired_change}
-use Rattle.rank.proofs.pairs.Paired.update.Given as goal
+use Rattle.rank.proofs.pairs.Paired.rows.Given as goal
 
 abbrev pub invariant-loop-i : goal.invariant-loop-i
 invariant-loop-i g l =
