@@ -13,16 +13,16 @@ use Rattle.slabs.specs.Eight.{lane, Lanes, Block}
 use Rattle.slabs.specs.Run.{elem_conj, plus_terms}
 use Rattle.slabs.specs.Update.{everywhere, span, span_rows, update_rows}
 use Rattle.slabs.proofs.EightLaws.{eight-same}
-use Rattle.slabs.proofs.RunLaws.{plus-on}
+use Rattle.slabs.proofs.RunLaws.{elem-own, plus-on}
 use Rattle.slabs.proofs.LoopLaws.{span_same, rows-span-after}
 use Rattle.slabs.proofs.Shown.{beside}
 use Rattle.blas.specs.Matrix.{Matrix, sum, accumulate}
 use Rattle.blas.proofs.OpLaws.{transposed-elem}
-use Rattle.blas.proofs.SumLaws.{sum-start, sum-next}
+use Rattle.blas.proofs.SumLaws.{sum-start}
 use Rattle.product_plan.specs.declared.plan.Factors.{Factors}
 use Rattle.product_plan.specs.declared.plan.Folded.{Folded}
 use Rattle.product_plan.specs.Plan.{term, terms_before, folded_term, folded_product}
-use Rattle.product_plan.proofs.Sums.{plus-start, sum-whole, real-next, real-sum-next, folded-sum, folded-thirds}
+use Rattle.product_plan.proofs.Sums.{plus-start, sum-whole, term-next, real-sum-next, folded-sum, folded-thirds}
 
 -- ---- terms added to each of w sums, x t being what sum t began with
 
@@ -35,18 +35,25 @@ module _ {w : ℕ} (K : Kind) (x : ℕ → K.Elem) (g : ℕ → ℕ → K.Elem) 
   lanes-on sums next from p h e n = eight-same K next _ _ n (λ t l. plus-on K (g t) (x t) from p (lane K sums t) (g t p) _ h (e.sum t l) refl refl)
 
 -- term p added: u is the left factor
-module _ {w : ℕ} (K : Kind) (S : SelfConjugate K) (f : Factors) (a b : List K.Cell) (i j : ℕ) (x : ℕ → K.Elem) (from p : ℕ) (sums next : List K.Elem) (u : K.Elem) where
-  pub lanes-next : from ≤ p → Lanes K w sums (λ t. plus_terms K (x t) (term K f a b i (j + t)) from (p - from)) → u ≡ elem K a f.left i p
-      → Lanes K w next (λ t. K.add (lane K sums t) (K.mul u (elem K b f.right p (j + t))))
-      → Lanes K w next (λ t. plus_terms K (x t) (term K f a b i (j + t)) from (p + 1 - from))
-  lanes-next h e eu n =
-      eight-same K next _ _ n (λ t l. real-next K S f a b i (j + t) (x t) from p (lane K sums t) u (elem K b f.right p (j + t)) _ _ h (e.sum t l) eu refl refl refl)
+pub lanes-next : {w : ℕ} (K : Kind) (f : Factors) (a b : List K.Cell) (i j : ℕ) (x : ℕ → K.Elem) (from p : ℕ) (sums next : List K.Elem) (u : K.Elem) → from ≤ p
+    → Lanes K w sums (λ t. plus_terms K (x t) (term K f a b i (j + t)) from (p - from)) → u ≡ elem_conj K f.left_conj a f.left i p
+    → Lanes K w next (λ t. K.add (lane K sums t) (K.mul u (elem_conj K f.right_conj b f.right p (j + t))))
+    → Lanes K w next (λ t. plus_terms K (x t) (term K f a b i (j + t)) from (p + 1 - from))
+lanes-next K f a b i j x from p sums next u h e eu n =
+    eight-same K next _ _ n
+    (λ t l. term-next K f a b i (j + t) (x t) from p (lane K sums t) u (elem_conj K f.right_conj b f.right p (j + t)) _ _ h (e.sum t l) eu refl refl refl)
 
--- elements of a row that lie side by side from place k on, u times each added to a sum
-pub beside-lanes : {w : ℕ} (K : Kind) (v : View) (len k p j : ℕ) (s : List K.Cell) (sums next : List K.Elem) (u : K.Elem) → v.cs ≡ pos 1 → ((t : ℕ) → t < w → Within v len p (j + t)) → k ≡ index v p j
-    → Lanes K w next (λ t. K.add (lane K sums t) (K.mul u (K.at s (k + t)))) → Lanes K w next (λ t. K.add (lane K sums t) (K.mul u (elem K s v p (j + t))))
-beside-lanes K v len k p j s sums next u one within e n =
-    eight-same K next _ _ n (λ t l. ap (λ (q : ℕ). K.add (lane K sums t) (K.mul u (K.at s q))) (ap (λ (q : ℕ). q + t) e ∙ sym (beside v len p j t one (within t l))))
+-- the same of numbers that are their own conjugates, where the right factors lie side by side from place k on
+pub beside-next : {w : ℕ} (K : Kind) (S : SelfConjugate K) (f : Factors) (a b : List K.Cell) (lb i j : ℕ) (x : ℕ → K.Elem) (from p k : ℕ) (sums next : List K.Elem) (u : K.Elem) → f.right.cs ≡ pos 1
+    → ((t : ℕ) → t < w → Within f.right lb p (j + t)) → k ≡ index f.right p j → from ≤ p
+    → Lanes K w sums (λ t. plus_terms K (x t) (term K f a b i (j + t)) from (p - from)) → u ≡ elem K a f.left i p
+    → Lanes K w next (λ t. K.add (lane K sums t) (K.mul u (K.at b (k + t))))
+    → Lanes K w next (λ t. plus_terms K (x t) (term K f a b i (j + t)) from (p + 1 - from))
+beside-next K S f a b lb i j x from p k sums next u one within e h d eu n =
+    lanes-next K f a b i j x from p sums next u h d (eu ∙ elem-own K S f.left_conj a f.left i p)
+    (eight-same K next _ _ n
+    (λ t l. ap (λ z. K.add (lane K sums t) (K.mul u z))
+    (ap (K.at b) (ap (λ (q : ℕ). q + t) e ∙ sym (beside f.right lb p j t one (within t l))) ∙ elem-own K S f.right_conj b f.right p (j + t))))
 
 -- ---- whole sums
 
@@ -57,14 +64,6 @@ module _ {w : ℕ} (K : Kind) (g : ℕ → ℕ → K.Elem) (zeros : List K.Elem)
   -- a run from 0 on is the sum
   pub sums-whole : (s : List K.Elem) (n : ℕ) → Lanes K w s (λ t. plus_terms K (lane K zeros t) (g t) 0 (n - 0)) → Lanes K w s (λ t. sum K n (g t))
   sums-whole s n h = eight-same K s _ _ h (λ t l. sum-whole K (g t) (lane K zeros t) _ n (none.sum t l) refl)
-
--- term p added to each sum of a row's elements from column j on: u is the left factor
-pub sums_next : {w : ℕ} (K : Kind) (f : Factors) (a b : List K.Cell) (i j p : ℕ) (sums next : List K.Elem) (u : K.Elem)
-    → Lanes K w sums (λ t. sum K p (term K f a b i (j + t))) → u ≡ elem_conj K f.left_conj a f.left i p
-    → Lanes K w next (λ t. K.add (lane K sums t) (K.mul u (elem_conj K f.right_conj b f.right p (j + t))))
-    → Lanes K w next (λ t. sum K (p + 1) (term K f a b i (j + t)))
-sums_next K f a b i j p sums next u e eu n =
-    eight-same K next _ _ n (λ t l. sum-next K (term K f a b i (j + t)) p (lane K sums t) _ _ (e.sum t l) (ap (λ z. K.mul z (elem_conj K f.right_conj b f.right p (j + t))) eu) refl)
 
 -- ---- those of a column from row i on: op(A)'s rows are its transpose's columns, and the factors are multiplied in the other order
 

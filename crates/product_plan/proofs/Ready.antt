@@ -23,7 +23,6 @@ use Rattle.slabs.specs.Elem.{Within}
 use Rattle.blas.specs.Syrk.{syrk_left, syrk_right}
 use Rattle.blas.specs.Herk.{herk_left, herk_right}
 use Rattle.product_plan.specs.declared.plan.Factors.{Factors}
-use Rattle.product_plan.specs.declared.plan.Plan.{Plan}
 use Rattle.product_plan.specs.declared.plan.Folded.{Folded}
 use Rattle.product_plan.specs.Plan.{terms_before, Reads, FactorsWithin, PlanReady, FoldedReads, FoldedReady, ByRow}
 use Rattle.product_plan.specs.Plans.{op_factors, left_factors, right_factors, row_turn, col_turn, is_upper, left_plan, right_plan, gemm_plan, gemv_plan, hemv_plan, syrk_plan, herk_plan, left_turn, right_turn, ReadySided}
@@ -34,15 +33,13 @@ pub spans : (f : Factors) (la lb m n k : ℕ) → Reads f la lb m n k → (i j f
 spans f la lb m n k r i j from end h g s l =
     record { ordered = s; left = λ p q. r.left i p h (omega arith); right = λ p q. r.right p j (omega arith) g }
 
--- a loop's slab keeps its length
-pub ready-kept : (plan : Plan) (la lb lc lc' : ℕ) → lc' ≡ lc → PlanReady plan la lb lc → PlanReady plan la lb lc'
-ready-kept plan la lb lc lc' e r = subst (λ (k : ℕ). PlanReady plan la lb k) (sym e) r
+-- a column with one after it inside is inside
+pub columns-within : {v : View} {len p : ℕ} (j n t : ℕ) → Within v len p (j + n) → t ≤ n → Within v len p (j + t)
+columns-within j n t h l = record { fits = h.fits; row = h.row; col = omega (arith, h.col) }
 
+-- a loop's slab keeps its length
 pub accepted-kept : (v : View) (len len' : ℕ) → len' ≡ len → Accepted v len → Accepted v len'
 accepted-kept v len len' e r = subst (λ (k : ℕ). Accepted v k) (sym e) r
-
-pub folded-kept : (plan : Folded) (la lb lc lc' : ℕ) → lc' ≡ lc → FoldedReady plan la lb lc → FoldedReady plan la lb lc'
-folded-kept plan la lb lc lc' e r = subst (λ (k : ℕ). FoldedReady plan la lb k) (sym e) r
 
 -- the terms before an upper triangle's turn
 pub left-room : (plan : Folded) (la lb i j : ℕ) → FoldedReads plan la lb → plan.turn ≡ left_turn → i < plan.target.rows → j < plan.target.cols → i ≤ plan.terms

@@ -1,8 +1,8 @@
 -- Sums taken in runs: what a run adds, and that the runs before and after a turn are the whole sum.
 use Prim.Native.Nat.{ℕ, zero, suc, ◌+◌, ◌≤◌, ◌<◌, ◌-◌}
-use mathlib.Core.Bool.{Bool, false, cond}
+use mathlib.Core.Bool.{Bool, cond}
 use mathlib.Core.List.{List}
-use mathlib.Core.Path.{◌≡◌, refl, sym, ap, subst, ◌∙◌}
+use mathlib.Core.Path.{◌≡◌, refl, sym, ap, ◌∙◌}
 use native.Mathlib.Omega.{arith}
 use lib.Dec.{ltb}
 use borrow.Author.Tests.{lt-ltb, le-ltb}
@@ -22,12 +22,6 @@ use Rattle.product_plan.specs.Plan.{term, terms_before, folded_term, folded_prod
 module _ (K : Kind) (f : ℕ → K.Elem) where
   pub plus-start : (x : K.Elem) (from : ℕ) → x ≡ plus_terms K x f from (from - from)
   plus-start x from = plus-first K f x from
-
-  -- a loop that is left at p has added the terms before `end`
-  pub plus-end : (x y : K.Elem) (from p end : ℕ) → p ≤ end → end ≤ p → y ≡ plus_terms K x f from (p - from) → y ≡ plus_terms K x f from (end - from)
-  plus-end x y from p end h g e =
-      let q : p ≡ end = omega arith in
-      subst (λ (m : ℕ). y ≡ plus_terms K x f from (m - from)) q e
 
   -- terms added to a sum are a longer sum
   more-sum : (from n : ℕ) → plus_terms K (sum K from f) f from n ≡ sum K (from + n) f
@@ -52,27 +46,7 @@ module _ (K : Kind) (f : Factors) (a b : List K.Cell) (i j : ℕ) (x : K.Elem) (
       → m ≡ K.mul u v → next ≡ K.add acc m → next ≡ plus_terms K x (term K f a b i j) from (p + 1 - from)
   term-next h e eu ev em en = plus-on K (term K f a b i j) x from p acc m next h e (em ∙ (λ s. K.mul (eu s) (ev s))) en
 
--- the same where the right factors are not conjugated
-pub left-next : (K : Kind) (f : Factors) (a b : List K.Cell) (i j : ℕ) (x : K.Elem) (from p : ℕ) (acc u v m next : K.Elem) → from ≤ p → f.right_conj ≡ false
-    → acc ≡ plus_terms K x (term K f a b i j) from (p - from) → u ≡ elem_conj K f.left_conj a f.left i p → v ≡ elem K b f.right p j
-    → m ≡ K.mul u v → next ≡ K.add acc m → next ≡ plus_terms K x (term K f a b i j) from (p + 1 - from)
-left-next K f a b i j x from p acc u v m next h c e eu ev em en =
-    term-next K f a b i j x from p acc u v m next h e eu
-    (ev ∙ ap (λ (t : Bool). cond t (K.conj (elem K b f.right p j)) (elem K b f.right p j)) (sym c))
-    em
-    en
-
--- the same of numbers that are their own conjugates
-pub real-next : (K : Kind) → SelfConjugate K → (f : Factors) (a b : List K.Cell) (i j : ℕ) (x : K.Elem) (from p : ℕ) (acc u v m next : K.Elem) → from ≤ p
-    → acc ≡ plus_terms K x (term K f a b i j) from (p - from) → u ≡ elem K a f.left i p → v ≡ elem K b f.right p j
-    → m ≡ K.mul u v → next ≡ K.add acc m → next ≡ plus_terms K x (term K f a b i j) from (p + 1 - from)
-real-next K S f a b i j x from p acc u v m next h e eu ev em en =
-    term-next K f a b i j x from p acc u v m next h e (eu ∙ elem-own K S f.left_conj a f.left i p)
-    (ev ∙ elem-own K S f.right_conj b f.right p j)
-    em
-    en
-
--- the same of a sum from its first term on
+-- the same of a sum from its first term on, of numbers that are their own conjugates
 pub real-sum-next : (K : Kind) → SelfConjugate K → (f : Factors) (a b : List K.Cell) (i j p : ℕ) (acc u v m next : K.Elem) → acc ≡ sum K p (term K f a b i j)
     → u ≡ elem K a f.left i p → v ≡ elem K b f.right p j → m ≡ K.mul u v → next ≡ K.add acc m
     → next ≡ sum K (p + 1) (term K f a b i j)
@@ -80,21 +54,6 @@ real-sum-next K S f a b i j p acc u v m next e eu ev em en =
     sum-next K (term K f a b i j) p acc m next e
     (em ∙ (λ t. K.mul ((eu ∙ elem-own K S f.left_conj a f.left i p) t) ((ev ∙ elem-own K S f.right_conj b f.right p j) t)))
     en
-
--- ---- a term before the turn, and one after it, of numbers that are their own conjugates
-
-module _ (K : Kind) (S : SelfConjugate K) (plan : Folded) (a b : List K.Cell) (i j p k : ℕ) (u v m : K.Elem) (ek : k ≡ terms_before plan.turn i j) where
-  pub before-turn : p < k → u ≡ elem K a plan.head.left i p → v ≡ elem K b plan.head.right p j → m ≡ K.mul u v → m ≡ folded_term K plan a b i j p
-  before-turn h eu ev em =
-      em
-      ∙ (λ t. K.mul ((eu ∙ elem-own K S plan.head.left_conj a plan.head.left i p) t) ((ev ∙ elem-own K S plan.head.right_conj b plan.head.right p j) t))
-      ∙ ap (λ (c : Bool). cond c (term K plan.head a b i j p) (term K plan.tail a b i j p)) (sym (lt-ltb p _ (subst (λ (z : ℕ). p < z) ek h)))
-
-  pub after_turn : k ≤ p → u ≡ elem K a plan.tail.left i p → v ≡ elem K b plan.tail.right p j → m ≡ K.mul u v → m ≡ folded_term K plan a b i j p
-  after_turn h eu ev em =
-      em
-      ∙ (λ t. K.mul ((eu ∙ elem-own K S plan.tail.left_conj a plan.tail.left i p) t) ((ev ∙ elem-own K S plan.tail.right_conj b plan.tail.right p j) t))
-      ∙ ap (λ (c : Bool). cond c (term K plan.head a b i j p) (term K plan.tail a b i j p)) (sym (le-ltb p _ (subst (λ (z : ℕ). z ≤ p) ek h)))
 
 -- ---- the terms before a turn and those after it
 

@@ -165,7 +165,3 @@ pub across-ready : (side : Side) (u vb vc : View) (la lb lc : ℕ) (straight : B
     → ReadySided side false Upper u la vb lb vc lc → AcrossReady straight plan la lb vc lc
 across-ready side u vb vc la lb lc straight plan es ep r =
     subst (λ s. AcrossReady s plan la lb vc lc) (sym es) (subst (λ p. AcrossReady (is_left side) p la lb vc lc) (sym ep) (across-turned side u vb vc la lb lc r))
-
--- a loop's slab keeps its length
-pub across-kept : (straight : Bool) (plan : Folded) (la lb : ℕ) (v : View) (lc lc' : ℕ) → lc' ≡ lc → AcrossReady straight plan la lb v lc → AcrossReady straight plan la lb v lc'
-across-kept straight plan la lb v lc lc' e r = subst (λ (k : ℕ). AcrossReady straight plan la lb v k) (sym e) r

@@ -1,11 +1,11 @@
 // A product run by its plan, element by element: the same for every number kind.
 
-ghost use Rattle.std.specs.Prelude.{◌≡◌, ◌<◌, ◌-◌};
+ghost use Rattle.std.specs.Prelude.{ℕ, ◌≡◌, ◌<◌, ◌+◌, ◌-◌};
 ghost use Rattle.number.specs.Kind.{kind};
 ghost use Rattle.number.specs.Scaling.{scale_by};
 ghost use Rattle.view.specs.Steps.{Accepted};
 ghost use Rattle.view.specs.Triangle.{in_triangle};
-ghost use Rattle.slabs.specs.Eight.{lane, Block};
+ghost use Rattle.slabs.specs.Eight.{lane, Lanes, Block};
 ghost use Rattle.slabs.specs.Elem.{Within};
 ghost use Rattle.slabs.specs.Run.{plus_terms};
 ghost use Rattle.slabs.specs.Update.{everywhere, replaced, span, update_row, update};
@@ -15,7 +15,7 @@ ghost use Rattle.product_plan.specs.Work.{plan_work, folded_work, CanRun, CanFol
 
 use crate::plan::{Factors, Folded, Plan};
 use kinds::{Beta, Number};
-use slabs::{elem_conj, place};
+use slabs::{elem_conj, place, plus_conj_lanes};
 use view::{UpLo, View};
 
 // The slabs of the left factors and of the right ones, what a sum is multiplied by, and what becomes of the target's old elements.
@@ -60,6 +60,27 @@ impl<'a, N: Number> Operands<'a, N> {
             total = total.add(self.term(f, i, j, p));
         }
         total
+    }
+
+    // W sums, those of elements (i, j) to before (i, j + W), with the terms from `from` to before `end` added.
+    pub fn add_lanes<const W: usize>(
+        &self,
+        f: Factors,
+        i: usize,
+        j: usize,
+        from: usize,
+        end: usize,
+        sums: [N; W],
+    ) -> [N; W]
+        requires { (0 < W) × ((t : ℕ) → t < W → FactorsWithin f (N.numbers.count self.now.a.now) (N.numbers.count self.now.b.now) i (j + t) from end) }
+        ensures { Lanes (kind N.numbers) W result (λ t. plus_terms (kind N.numbers) (lane (kind N.numbers) sums t) (term (kind N.numbers) f self.now.a.now self.now.b.now i (j + t)) from (end - from)) }
+    {
+        let mut totals = sums;
+        for p in from..end {
+            let u: N = elem_conj(f.left_conj, self.a, f.left, i, p);
+            totals = plus_conj_lanes(u, f.right_conj, self.b, f.right, p, j, totals);
+        }
+        totals
     }
 
     // Element (i, j) of a target scaled, with alpha times the sum added.
@@ -167,11 +188,19 @@ impl<'a, N: Number> Operands<'a, N> {
         self.turned_sum(plan, plan.turn.at(i, j, plan.terms), i, j)
     }
 
-    // Element (i, j) of a folded plan's target.
+    // Element (i, j) of a folded plan's target, where the sum turns after k terms.
+    pub fn turned_entry(&self, plan: Folded, k: usize, c: &mut [N::Cell], i: usize, j: usize)
+        requires { CanRunFolded N.numbers plan self.now c.old × (i < plan.target.rows) × (j < plan.target.cols) × (k ≡ terms_before plan.turn i j) }
+        ensures { c.new ≡ replaced (kind N.numbers) plan.target i j (folded_work N.numbers N.multipliers plan self.now i j) c.old }
+    {
+        self.settle(plan.target, c, i, j, self.turned_sum(plan, k, i, j));
+    }
+
+    // The same, with its turn found.
     pub fn folded_entry(&self, plan: Folded, c: &mut [N::Cell], i: usize, j: usize)
         requires { CanRunFolded N.numbers plan self.now c.old × (i < plan.target.rows) × (j < plan.target.cols) }
         ensures { c.new ≡ replaced (kind N.numbers) plan.target i j (folded_work N.numbers N.multipliers plan self.now i j) c.old }
     {
-        self.settle(plan.target, c, i, j, self.folded_sum(plan, i, j));
+        self.turned_entry(plan, plan.turn.at(i, j, plan.terms), c, i, j);
     }
 }

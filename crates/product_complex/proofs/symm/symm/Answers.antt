@@ -1,0 +1,27 @@
+-- A refused call leaves its slab; a passed one does the work of its side (Kernels: symm-refused, symm-done).
+use Rattle.std.proofs.Common.{◌∙◌}
+use Rattle.number.specs.Kind.{complex, complex_numbers}
+use Rattle.number.specs.Scaling.{complex_multipliers}
+use Rattle.view.specs.Checks.{symm_check}
+use Rattle.product_plan.proofs.Kernels.{symm-runs, symm-refused, symm-done}
+use Rattle.product_plan.proofs.Scales.{by-beta, by-alpha}
+use Rattle.product_complex.proofs.symm.symm.Goals as goal
+
+pub run-requires : goal.run-requires
+run-requires c =
+    let p = c.args in
+    symm-runs p.side p.uplo p.va p.vb p.vc _ _ _ _ _ (c.check_symm-answer.ensures ∙ (λ t. symm_check p.side p.va (c.count-la.ensures.counted t) p.vb (c.count-lb.ensures.counted t) p.vc (c.count-lc.ensures.counted t))) c.passed.ensures c.if-passed.true
+
+pub returns-then-passed : goal.returns-then-passed
+returns-then-passed c =
+    let p = c.args in
+    let n = complex_numbers in
+    let m = complex_multipliers in
+    symm-done complex _ _ _ _ _ _ _ _ _ (c.check_symm-answer.ensures ∙ (λ t. symm_check p.side p.va (c.count-la.ensures.counted t) p.vb (c.count-lb.ensures.counted t) p.vc (c.count-lc.ensures.counted t))) c.passed.ensures c.if-passed.true _ _ _
+    (by-beta n m _ _ c.judged.ensures) (by-alpha n m _ _ c.multiplier.ensures)
+    c.run.ensures
+
+pub returns-else-passed : goal.returns-else-passed
+returns-else-passed c =
+    let p = c.args in
+    symm-refused complex _ _ _ _ _ _ _ _ _ (c.check_symm-answer.ensures ∙ (λ t. symm_check p.side p.va (c.count-la.ensures.counted t) p.vb (c.count-lb.ensures.counted t) p.vc (c.count-lc.ensures.counted t))) c.passed.ensures c.if-passed.false
