@@ -1,5 +1,5 @@
 -- What a system reads and writes is inside the slabs, and is what the definitions mean.
-use Prim.Native.Nat.{ℕ, ◌+◌, ◌<◌, ◌≤◌}
+use Prim.Native.Nat.{ℕ, ◌+◌, ◌<◌}
 use mathlib.Core.Bool.{cond}
 use mathlib.Core.List.{List}
 use mathlib.Core.Path.{◌≡◌, refl, ap, sym, subst, ◌∙◌}
@@ -18,13 +18,12 @@ use Rattle.view.specs.Steps.{Accepted}
 use Rattle.view.specs.Vector.{column_of}
 use Rattle.slabs.specs.Distinct.{Distinct}
 use Rattle.slabs.specs.Elem.{elem, Within}
-use Rattle.slabs.specs.Run.{Spans}
 use Rattle.blas.specs.Matrix.{Matrix, op}
 use Rattle.blas.specs.Substitution.{unknown_at, unknown}
 use Rattle.blas.proofs.OpLaws.{op-elem, transposed-elem}
 use Rattle.triangle_plan.specs.declared.System.{System}
 use Rattle.triangle_plan.specs.Triangles.{lines_view, system_of, coefficient}
-use Rattle.triangle_plan.specs.Ready.{Pivots, Ready, ReadyAt, Sided}
+use Rattle.triangle_plan.specs.Ready.{Pivots, Ready, ReadyAt, LinesReady, Sided}
 
 -- ---- what is read
 
@@ -130,17 +129,6 @@ module _ (y : System) (la lb : ℕ) where
     pub unknown-shown : (p l : ℕ) → p < y.b.rows → l < y.b.cols → Within y.b lb p l
     unknown-shown p l h g = record { fits = r.b; row = h; col = g }
 
-    -- n terms of row q by column l
-    pub run-spans : (q l from n : ℕ) → q < y.b.rows → l < y.b.cols → from + n ≤ y.b.rows → Spans y.a la y.b lb q l from n
-    run-spans q l from n h g room = record {
-      left = λ p k. record {
-        fits = r.pivots.a;
-        row = subst (λ (m : ℕ). q < m) (sym r.pivots.rows) h;
-        col = subst (λ (m : ℕ). from + p < m) (sym r.pivots.cols) (omega arith);
-      };
-      right = λ p k. unknown-shown (from + p) l (omega arith) g;
-    }
-
   -- unknown q, or the one that comes after q others, of line l, on a slab that keeps its length
   pub ready_for : (lb' m n q l : ℕ) → Ready y la lb → lb' ≡ lb → m ≡ y.b.rows → n ≡ y.b.cols → q < m → l < n → ReadyAt y la lb' q l
   ready_for lb' m n q l r kept counted wide h g = record {
@@ -148,6 +136,21 @@ module _ (y : System) (la lb : ℕ) where
     unknown = subst (λ (k : ℕ). q < k) counted h;
     line = subst (λ (k : ℕ). l < k) wide g;
   }
+
+-- ---- what w lines read and write
+
+module _ (y : System) (la lb q l w : ℕ) (r : LinesReady y la lb q l w) where
+  -- the coefficients of unknown q
+  pub coefficient_shown : (p : ℕ) → p < y.b.rows → Within y.a la q p
+  coefficient_shown p h = record {
+    fits = r.ready.pivots.a;
+    row = subst (λ (m : ℕ). q < m) (sym r.ready.pivots.rows) r.unknown;
+    col = subst (λ (m : ℕ). p < m) (sym r.ready.pivots.cols) h;
+  }
+
+  -- unknown p in each line
+  pub lanes_shown : (p : ℕ) → p < y.b.rows → (t : ℕ) → t < w → Within y.b lb p (l + t)
+  lanes_shown p h t g = record { fits = r.ready.b; row = h; col = omega (arith, r.lines) }
 
 -- ---- an element of a row of B, whose slab keeps its length
 
