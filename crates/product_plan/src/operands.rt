@@ -63,6 +63,7 @@ impl<'a, N: Number> Operands<'a, N> {
     }
 
     // Element (i, j) of a target scaled, with alpha times the sum added.
+    #[inline(always)]
     pub fn settle(&self, v: View, c: &mut [N::Cell], i: usize, j: usize, sum: N)
         requires { Within v (N.numbers.count c.old) i j }
         ensures { c.new ≡ replaced (kind N.numbers) v i j (λ x. N.numbers.add (scale_by N.numbers N.multipliers self.now.beta x) (N.multipliers.times self.now.alpha sum)) c.old }
@@ -147,6 +148,7 @@ impl<'a, N: Number> Operands<'a, N> {
     }
 
     // The sum of element (i, j) of a folded plan, which turns after k terms.
+    #[inline(always)]
     #[tactic(auto, using(crate::proofs::Steps::sums))]
     pub fn turned_sum(&self, plan: Folded, k: usize, i: usize, j: usize) -> N
         requires { CanFold N.numbers plan self.now × (i < plan.target.rows) × (j < plan.target.cols) × (k ≡ terms_before plan.turn i j) }
@@ -157,6 +159,7 @@ impl<'a, N: Number> Operands<'a, N> {
     }
 
     // The same, with its turn found.
+    #[inline(always)]
     pub fn folded_sum(&self, plan: Folded, i: usize, j: usize) -> N
         requires { CanFold N.numbers plan self.now × (i < plan.target.rows) × (j < plan.target.cols) }
         ensures { result ≡ folded_product (kind N.numbers) plan self.now.a.now self.now.b.now i j }

@@ -58,6 +58,7 @@ fn run_wide<R: Real, const LEFT: bool>(ops: &Operands<R>, plan: Folded, c: &mut 
 }
 
 // The whole target, eight columns at a time.
+#[inline(never)]
 fn wide<R: Real>(side: Side, ops: &Operands<R>, u: View, vb: View, c: &mut [R::Cell], vc: View)
     requires { ReadySided side false UpLo.Upper u (R.numbers.count ops.now.a.now) vb (R.numbers.count ops.now.b.now) vc (R.numbers.count c.old) × (8 ≤ vc.cols) }
     ensures { c.new ≡ sided_work (kind R.numbers) side false UpLo.Upper u vb vc (scale_by R.numbers R.multipliers ops.now.beta) (R.multipliers.times ops.now.alpha) ops.now.a.now ops.now.b.now c.old }
@@ -74,19 +75,25 @@ fn wide<R: Real>(side: Side, ops: &Operands<R>, u: View, vb: View, c: &mut [R::C
     }
 }
 
+// The first of two numbers, or the second.
+#[inline(always)]
+fn chosen(first: bool, x: usize, y: usize) -> usize
+    ensures { result ≡ cond first x y }
+{
+    if first { x } else { y }
+}
+
 // The sum of element (i, j) of a target that stands as a folded plan's does, or across it.
+#[inline(always)]
 fn across_sum<R: Real>(straight: bool, ops: &Operands<R>, plan: Folded, i: usize, j: usize) -> R
     requires { CanFold R.numbers plan ops.now × (cond straight i j < plan.target.rows) × (cond straight j i < plan.target.cols) }
     ensures { result ≡ across (kind R.numbers) straight (folded_product (kind R.numbers) plan ops.now.a.now ops.now.b.now) i j }
 {
-    if straight {
-        ops.folded_sum(plan, i, j)
-    } else {
-        ops.folded_sum(plan, j, i)
-    }
+    ops.folded_sum(plan, chosen(straight, i, j), chosen(straight, j, i))
 }
 
 // Element (i, j) of a target v that stands as a folded plan's does, or across it.
+#[inline(always)]
 fn across_entry<R: Real>(
     straight: bool,
     ops: &Operands<R>,
@@ -103,6 +110,7 @@ fn across_entry<R: Real>(
 }
 
 // Row i of the target, element by element.
+#[inline(always)]
 #[tactic(auto, using(product_plan::proofs::Steps::rows))]
 fn across_row<R: Real>(
     straight: bool,
@@ -121,6 +129,7 @@ fn across_row<R: Real>(
 }
 
 // The whole target, element by element.
+#[inline(always)]
 #[tactic(auto, using(product_plan::proofs::Steps::rows))]
 fn across<R: Real>(straight: bool, ops: &Operands<R>, plan: Folded, c: &mut [R::Cell], v: View)
     requires { CanRunAcross R.numbers straight plan ops.now v c.old }
@@ -137,10 +146,17 @@ fn narrow<R: Real>(side: Side, ops: &Operands<R>, u: View, vb: View, c: &mut [R:
     requires { CanRunAcross R.numbers (is_left side) (element_plan side u vb vc) ops.now vc c.old }
     ensures { c.new ≡ update (kind R.numbers) vc everywhere (across_work R.numbers R.multipliers (is_left side) (element_plan side u vb vc) ops.now) c.old }
 {
-    across(is_left(side), ops, element_plan(side, u, vb, vc), c, vc);
+    let own: Operands<R> = Operands {
+        a: ops.a,
+        b: ops.b,
+        alpha: ops.alpha,
+        beta: ops.beta,
+    };
+    across(is_left(side), &own, element_plan(side, u, vb, vc), c, vc);
 }
 
 // symm's and hemm's target, with A's upper triangle in u.
+#[inline(always)]
 pub(crate) fn run<R: Real>(
     side: Side,
     ops: &Operands<R>,
