@@ -1,4 +1,4 @@
-// her2.
+// her2. It differs from her by a second vector and a second product, and not by a type or a constant.
 
 ghost use Rattle.std.specs.Prelude.{◌≡◌, ◌<◌};
 ghost use Rattle.number.specs.Kind.{kind};
