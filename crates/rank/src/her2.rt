@@ -1,4 +1,4 @@
-// her2.
+// her2. It differs from her by a second vector and a second product, and not by a type or a constant.
 
 ghost use Rattle.std.specs.Prelude.{◌≡◌, ◌<◌};
 ghost use Rattle.number.specs.Kind.{kind};
@@ -8,77 +8,81 @@ ghost use Rattle.slabs.specs.Update.{replaced, update_row, update};
 ghost use Rattle.blas.specs.Outcome.{Gives};
 ghost use Rattle.blas.specs.Her2;
 ghost use Rattle.rank_plan.specs.Change.{add_two};
-ghost use Rattle.rank_plan.specs.Ready.{Two};
+ghost use Rattle.rank_plan.specs.Ready.{SquareWithin};
 
+use crate::column::Column;
 use call_check::check_her2;
 use call_check::quick::quick_her2;
 use kinds::Number;
-use slabs::{elem, place};
+use slabs::place;
 use view::{Answer, UpLo, View};
 
 // Element (i, j) of her2's target, where w is alpha·xi and w2 is conj(alpha)·yi.
+#[inline(always)]
 fn her2_entry<N: Number>(
     w: N,
     w2: N,
-    x: &[N::Cell],
-    vx: View,
-    y: &[N::Cell],
-    vy: View,
+    x: &Column<N>,
+    y: &Column<N>,
     a: &mut [N::Cell],
     va: View,
     i: usize,
     j: usize,
 )
-    requires { Within vx (N.numbers.count x.now) j 0 × Within vy (N.numbers.count y.now) j 0 × Within va (N.numbers.count a.old) i j }
-    ensures { let K = kind N.numbers in a.new ≡ replaced K va i j (add_two K w w2 (elem K x.now vx) (elem K y.now vy) j) a.old }
+    requires col_x { j < x.now.view.rows }
+    requires col_y { j < y.now.view.rows }
+    requires inside { Within va (N.numbers.count a.old) i j }
+    ensures { let K = kind N.numbers in a.new ≡ replaced K va i j (add_two K w w2 (elem K x.now.slab.now x.now.view) (elem K y.now.slab.now y.now.view) j) a.old }
 {
     let t = place::<N>(a, va, i, j);
     let old = N::get(a, t);
-    let xj: N = elem(x, vx, j, 0);
-    let yj: N = elem(y, vy, j, 0);
-    N::put(a, t, old.add(w.mul(yj.conj())).add(w2.mul(xj.conj())));
+    let first = w.mul(y.get(j).conj());
+    let second = w2.mul(x.get(j).conj());
+    N::put(a, t, old.add(first).add(second));
 }
 
-// Row i of her2's target, which has as many columns as rows.
+// Row i of her2's target, which has as many rows and columns as x and y have elements.
+#[inline(always)]
 fn her2_row<N: Number>(
     uplo: UpLo,
     alpha: N,
-    x: &[N::Cell],
-    vx: View,
-    y: &[N::Cell],
-    vy: View,
+    x: &Column<N>,
+    y: &Column<N>,
     a: &mut [N::Cell],
     va: View,
     i: usize,
 )
-    requires { Two vx (N.numbers.count x.now) vy (N.numbers.count y.now) va (N.numbers.count a.old) × (i < va.rows) }
-    ensures { let K = kind N.numbers in a.new ≡ update_row K va (in_triangle uplo) (Her2.her2_change K alpha (elem K x.now vx) (elem K y.now vy)) i va.cols a.old }
+    requires square { SquareWithin va (N.numbers.count a.old) }
+    requires long_x { x.now.view.rows ≡ va.rows }
+    requires long_y { y.now.view.rows ≡ va.rows }
+    requires row { i < va.rows }
+    ensures { let K = kind N.numbers in a.new ≡ update_row K va (in_triangle uplo) (Her2.her2_change K alpha (elem K x.now.slab.now x.now.view) (elem K y.now.slab.now y.now.view)) i va.cols a.old }
 {
-    let w = alpha.mul(elem(x, vx, i, 0));
+    let w = alpha.mul(x.get(i));
     let conjugate = alpha.conj();
-    let w2 = conjugate.mul(elem(y, vy, i, 0));
+    let w2 = conjugate.mul(y.get(i));
     for j in uplo.first_col(i)..uplo.end_col(i, va.rows) {
-        her2_entry(w, w2, x, vx, y, vy, a, va, i, j);
+        her2_entry(w, w2, x, y, a, va, i, j);
     }
 }
 
-// The whole of her2's target; x and y are columns.
+// The whole of her2's target.
 #[inline(always)]
 fn her2_rows<N: Number>(
     uplo: UpLo,
     alpha: N,
-    x: &[N::Cell],
-    vx: View,
-    y: &[N::Cell],
-    vy: View,
+    x: &Column<N>,
+    y: &Column<N>,
     a: &mut [N::Cell],
     va: View,
 )
-    requires { Two vx (N.numbers.count x.now) vy (N.numbers.count y.now) va (N.numbers.count a.old) }
-    ensures { let K = kind N.numbers in a.new ≡ update K va (in_triangle uplo) (Her2.her2_change K alpha (elem K x.now vx) (elem K y.now vy)) a.old }
+    requires square { SquareWithin va (N.numbers.count a.old) }
+    requires long_x { x.now.view.rows ≡ va.rows }
+    requires long_y { y.now.view.rows ≡ va.rows }
+    ensures { let K = kind N.numbers in a.new ≡ update K va (in_triangle uplo) (Her2.her2_change K alpha (elem K x.now.slab.now x.now.view) (elem K y.now.slab.now y.now.view)) a.old }
 {
     for i in 0..va.rows {
-        her2_row(uplo, alpha, x, vx, y, vy, a, va, i);
+        her2_row(uplo, alpha, x, y, a, va, i);
     }
 }
 
@@ -102,9 +106,15 @@ pub fn her2<N: Number>(
     let quick = quick_her2(vx, lx, vy, ly, va, la);
     let answer = check_her2(quick, vx, lx, vy, ly, va, la);
     if answer.passed() {
-        let xc = vx.column(va.rows);
-        let yc = vy.column(va.rows);
-        her2_rows(uplo, alpha, x, xc, y, yc, a, va);
+        let x: Column<N> = Column {
+            slab: x,
+            view: vx.column(va.rows),
+        };
+        let y: Column<N> = Column {
+            slab: y,
+            view: vy.column(va.rows),
+        };
+        her2_rows(uplo, alpha, &x, &y, a, va);
     }
     answer
 }

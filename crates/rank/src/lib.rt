@@ -2,6 +2,7 @@
 
 #![tactic(auto)]
 
+mod column;
 pub mod her;
 pub mod her2;
 pub mod her2k;

@@ -27,6 +27,7 @@ pub(crate) struct Paired<'a, N: Number, W: Weigh<N>> {
     ghost factors: { Factors plan (N.numbers.count a.now) (N.numbers.count b.now) },
 }
 
+// Each is put into its caller: else the plan is read from memory for every element.
 impl<'a, N: Number, W: Weigh<N>> Paired<'a, N, W> {
     // The left factors at p, weighed.
     #[inline(always)]
@@ -67,7 +68,7 @@ impl<'a, N: Number, W: Weigh<N>> Paired<'a, N, W> {
         sum.add(first).add(second)
     }
 
-    // The sum of all pairs of products for element (i, j).
+    // The sum of all pairs of products for element (i, j). As an array of one, complex sums took half as long again.
     #[inline(always)]
     fn pair_sum(&self, i: usize, j: usize) -> N
         requires row { i < self.now.plan.target.rows }

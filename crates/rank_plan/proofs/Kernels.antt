@@ -3,7 +3,7 @@
 use Prim.Native.Nat.{ℕ}
 use mathlib.Core.Bool.{Bool, true, false}
 use mathlib.Core.List.{List, [], ◌∷◌}
-use mathlib.Core.Path.{◌≡◌, ap, ◌∙◌}
+use mathlib.Core.Path.{◌≡◌, refl, ap, ◌∙◌}
 use Rattle.number.specs.Kind.{Kind, Numbers, kind}
 use Rattle.number.specs.Scaling.{scaled, scaled_real, Multipliers, beta_of, beta_real_of, scale_by}
 use Rattle.number.specs.declared.Beta.{Beta}
@@ -14,7 +14,7 @@ use Rattle.view.specs.declared.Trans.{Trans}
 use Rattle.view.specs.declared.UpLo.{UpLo}
 use Rattle.view.specs.Judge.{is_done, arg}
 use Rattle.view.specs.Checks.{vector_of, op_cols, trmv_shape, hemv_shape, her_check, her2_check, syr2k_check, her2k_check}
-use Rattle.view.proofs.JudgeLaws.{Passed, judge-passed, trmv-sizes, hemv-sizes}
+use Rattle.view.proofs.JudgeLaws.{Passed, Vector, judge-passed, trmv-sizes, hemv-sizes}
 use Rattle.view.specs.Triangle.{in_triangle}
 use Rattle.view.specs.Vector.{column_of}
 use Rattle.slabs.specs.Elem.{Lent, elem}
@@ -31,8 +31,8 @@ use Rattle.rank_plan.specs.declared.plan.Plan.{Plan}
 use Rattle.rank_plan.specs.declared.plan.Readings.{Readings}
 use Rattle.rank_plan.specs.Plan.{paired_plan, syr2k_plan, her2k_plan, syr_readings, her_readings}
 use Rattle.rank_plan.specs.Change.{Weights, sum_weighed, factors_weighed, pairs_at, syr2k_change, her2k_change}
-use Rattle.rank_plan.specs.Ready.{Factors, One, Paired, SquareWithin, Two}
-use Rattle.rank_plan.proofs.Ready.{her-ready, her2-ready, paired-ready, syr-turned, her-turned}
+use Rattle.rank_plan.specs.Ready.{Factors, Paired, Sized, SquareWithin}
+use Rattle.rank_plan.proofs.Ready.{column-inside, paired-ready, syr-turned, her-turned}
 
 -- ---- her
 
@@ -48,8 +48,14 @@ module _ (K : Kind) (uplo : UpLo) (alpha : K.Factor) (x a : Lent K) (lx la : ℕ
   pub her_vector : flag ≡ true → vector_of x.view a.view.rows ≡ true
   her_vector h = (trmv-sizes a.view x.view (her-passed h).shape).1.shape
 
-  pub her_runs : flag ≡ true → (column : View) → column ≡ column_of x.view → One column (K.count x.slab) a.view (K.count a.slab)
-  her_runs h column e = rw e (her-ready x.view a.view _ _ (her-passed h))
+  pub her_column : flag ≡ true → (column : View) → column ≡ column_of x.view → Sized column (K.count x.slab) column.rows 1
+  her_column h column e = rw e (column-inside _ _ _ (trmv-sizes a.view x.view (her-passed h).shape).1 (her-passed h).each.0)
+
+  pub her_long : flag ≡ true → (column : View) → column ≡ column_of x.view → column.rows ≡ a.view.rows
+  her_long h column e = rw e (trmv-sizes a.view x.view (her-passed h).shape).1.length
+
+  pub her_square : flag ≡ true → SquareWithin a.view (K.count a.slab)
+  her_square h = record { fits = (her-passed h).each.1.0; rows = refl; cols = (trmv-sizes a.view x.view (her-passed h).shape).0 }
 
   pub her_refused : flag ≡ false → Gives K (her K uplo alpha x a) r a.slab
   unfolding her
@@ -74,14 +80,29 @@ module _ (K : Kind) (uplo : UpLo) (alpha : K.Elem) (x y a : Lent K) (lx ly la : 
   her2-passed : flag ≡ true → Passed (arg x.view (K.count x.slab) ∷ arg y.view (K.count y.slab) ∷ arg a.view (K.count a.slab) ∷ []) (hemv_shape a.view x.view y.view) a.view
   her2-passed h = judge-passed _ _ _ (check_done _ r flag her2-answered told h)
 
+  her2-sizes : flag ≡ true → (a.view.cols ≡ a.view.rows) × Vector x.view a.view.rows × Vector y.view a.view.rows
+  her2-sizes h = hemv-sizes a.view x.view y.view (her2-passed h).shape
+
   pub her2_vector_x : flag ≡ true → vector_of x.view a.view.rows ≡ true
-  her2_vector_x h = (hemv-sizes a.view x.view y.view (her2-passed h).shape).1.shape
+  her2_vector_x h = (her2-sizes h).1.shape
 
   pub her2_vector_y : flag ≡ true → vector_of y.view a.view.rows ≡ true
-  her2_vector_y h = (hemv-sizes a.view x.view y.view (her2-passed h).shape).2.shape
+  her2_vector_y h = (her2-sizes h).2.shape
 
-  pub her2_runs : flag ≡ true → (xc yc : View) → xc ≡ column_of x.view → yc ≡ column_of y.view → Two xc (K.count x.slab) yc (K.count y.slab) a.view (K.count a.slab)
-  her2_runs h xc yc e f = rw (e, f) (her2-ready x.view y.view a.view _ _ _ (her2-passed h))
+  pub her2_column_x : flag ≡ true → (column : View) → column ≡ column_of x.view → Sized column (K.count x.slab) column.rows 1
+  her2_column_x h column e = rw e (column-inside _ _ _ (her2-sizes h).1 (her2-passed h).each.0)
+
+  pub her2_column_y : flag ≡ true → (column : View) → column ≡ column_of y.view → Sized column (K.count y.slab) column.rows 1
+  her2_column_y h column e = rw e (column-inside _ _ _ (her2-sizes h).2 (her2-passed h).each.1.0)
+
+  pub her2_long_x : flag ≡ true → (column : View) → column ≡ column_of x.view → column.rows ≡ a.view.rows
+  her2_long_x h column e = rw e (her2-sizes h).1.length
+
+  pub her2_long_y : flag ≡ true → (column : View) → column ≡ column_of y.view → column.rows ≡ a.view.rows
+  her2_long_y h column e = rw e (her2-sizes h).2.length
+
+  pub her2_square : flag ≡ true → SquareWithin a.view (K.count a.slab)
+  her2_square h = record { fits = (her2-passed h).each.1.1.0; rows = refl; cols = (her2-sizes h).0 }
 
   pub her2_refused : flag ≡ false → Gives K (her2 K uplo alpha x y a) r a.slab
   unfolding her2

@@ -14,16 +14,6 @@ pub record Sized (v : View) (len m n : ℕ) : Type 0 where
 abbrev pub SquareWithin : View → ℕ → Type 0
 SquareWithin v len = Sized v len v.rows v.rows
 
--- her and her2: x and y are columns as long as the square target
-pub record One (vx : View) (lx : ℕ) (va : View) (la : ℕ) : Type 0 where
-  pub x : Sized vx lx va.rows 1
-  pub target : SquareWithin va la
-
-pub record Two (vx : View) (lx : ℕ) (vy : View) (ly : ℕ) (va : View) (la : ℕ) : Type 0 where
-  pub x : Sized vx lx va.rows 1
-  pub y : Sized vy ly va.rows 1
-  pub target : SquareWithin va la
-
 -- syr2k and her2k: the factors have the target's rows and the terms, or the terms and the target's columns
 pub record Factors (plan : Plan) (la lb : ℕ) : Type 0 where
   pub left-a : Sized plan.left_a la plan.target.rows plan.terms

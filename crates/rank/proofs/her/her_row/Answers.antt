@@ -15,11 +15,11 @@ loop-j-preserved g c =
     let n = g.N.Number.numbers in
     let p = c.args in
     changed_next (kind n) _ _ _ _ _ _ _ _ _ c.loop-j.auto.j c.loop-j.invariant c.her_entry.ensures
-    (her-same (kind n) p.alpha (elem (kind n) p.x.now p.vx) p.i _ (c.scale_real-w.ensures ∙ ap (n.scale_real p.alpha) c.elem-xi.ensures) _)
+    (her-same (kind n) p.alpha (elem (kind n) p.x.now.slab.now p.x.now.view) p.i _ (c.scale_real-w.ensures ∙ ap (n.scale_real p.alpha) c.get.ensures) _)
 
 pub returns : goal.returns
 returns g c =
-    row_done (kind g.N.Number.numbers) _ _ _ _ _ _ _ _ _ _ (omega (arith, c.requires.0.target.cols)) c.requires.1 c.first_col-j.ensures c.end_col-j-end.ensures
+    row_done (kind g.N.Number.numbers) _ _ _ _ _ _ _ _ _ _ (omega (arith, c.requires.square.cols)) c.requires.row c.first_col-j.ensures c.end_col-j-end.ensures
     c.loop-j.auto.j-end
     (omega arith)
     c.loop-j.invariant

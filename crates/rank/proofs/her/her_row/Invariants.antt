@@ -9,4 +9,4 @@ use Rattle.rank.proofs.her.her_row.Given as goal
 abbrev pub invariant-loop-j : goal.invariant-loop-j
 invariant-loop-j g l =
     let K = kind g.N.Number.numbers in
-    l.a ≡ span K l.va (her_change K l.fn.alpha (elem K l.x l.vx)) l.i l.initial.j l.j l.fn.a
+    l.a ≡ span K l.va (her_change K l.fn.alpha (elem K l.x.slab.now l.x.view)) l.i l.initial.j l.j l.fn.a

@@ -10,4 +10,4 @@ use Rattle.rank.proofs.her.her_rows.Given as goal
 abbrev pub invariant-loop-i : goal.invariant-loop-i
 invariant-loop-i g l =
     let K = kind g.N.Number.numbers in
-    l.a ≡ update_rows K l.va (in_triangle l.uplo) (her_change K l.alpha (elem K l.x l.vx)) l.i l.fn.a
+    l.a ≡ update_rows K l.va (in_triangle l.uplo) (her_change K l.alpha (elem K l.x.slab.now l.x.view)) l.i l.fn.a

@@ -15,13 +15,13 @@ loop-j-preserved g c =
     let n = g.N.Number.numbers in
     let p = c.args in
     changed_next (kind n) _ _ _ _ _ _ _ _ _ c.loop-j.auto.j c.loop-j.invariant c.her2_entry.ensures
-    (her2-same (kind n) p.alpha (elem (kind n) p.x.now p.vx) (elem (kind n) p.y.now p.vy) p.i _ _ (c.mul-w.ensures ∙ ap (n.mul p.alpha) c.elem.ensures)
-    (c.mul-w2.ensures ∙ (λ t. n.mul (c.conj-conjugate.ensures t) (c.elem-2.ensures t)))
+    (her2-same (kind n) p.alpha (elem (kind n) p.x.now.slab.now p.x.now.view) (elem (kind n) p.y.now.slab.now p.y.now.view) p.i _ _ (c.mul-w.ensures ∙ ap (n.mul p.alpha) c.get.ensures)
+    (c.mul-w2.ensures ∙ (λ t. n.mul (c.conj-conjugate.ensures t) (c.get-2.ensures t)))
     _)
 
 pub returns : goal.returns
 returns g c =
-    row_done (kind g.N.Number.numbers) _ _ _ _ _ _ _ _ _ _ (omega (arith, c.requires.0.target.cols)) c.requires.1 c.first_col-j.ensures c.end_col-j-end.ensures
+    row_done (kind g.N.Number.numbers) _ _ _ _ _ _ _ _ _ _ (omega (arith, c.requires.square.cols)) c.requires.row c.first_col-j.ensures c.end_col-j-end.ensures
     c.loop-j.auto.j-end
     (omega arith)
     c.loop-j.invariant

@@ -9,4 +9,4 @@ use Rattle.rank.proofs.her2.her2_row.Given as goal
 abbrev pub invariant-loop-j : goal.invariant-loop-j
 invariant-loop-j g l =
     let K = kind g.N.Number.numbers in
-    l.a ≡ span K l.va (her2_change K l.fn.alpha (elem K l.x l.vx) (elem K l.y l.vy)) l.i l.initial.j l.j l.fn.a
+    l.a ≡ span K l.va (her2_change K l.fn.alpha (elem K l.x.slab.now l.x.view) (elem K l.y.slab.now l.y.view)) l.i l.initial.j l.j l.fn.a
