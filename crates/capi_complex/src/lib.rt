@@ -45,7 +45,23 @@ pub extern "C" fn zb_zgemv(
     let vx = View::new(xstart, xrows, xcols, xrs, xcs);
     let vy = View::new(ystart, yrows, ycols, yrs, ycs);
     match Trans::try_from(trans) {
-        Ok(trans) => u8::from(product_complex::gemv::gemv(trans, Complex { re: alphare, im: alphaim }, a, va, x, vx, Complex { re: betare, im: betaim }, y, vy)),
+        Ok(trans) => u8::from(product_complex::gemv::gemv(
+            trans,
+            Complex {
+                re: alphare,
+                im: alphaim,
+            },
+            a,
+            va,
+            x,
+            vx,
+            Complex {
+                re: betare,
+                im: betaim,
+            },
+            y,
+            vy,
+        )),
         Err(_) => u8::from(judge3(va, a.len() / 2, vx, x.len() / 2, vy, y.len() / 2, false)),
     }
 }
@@ -83,7 +99,23 @@ pub extern "C" fn zb_zhemv(
     let vx = View::new(xstart, xrows, xcols, xrs, xcs);
     let vy = View::new(ystart, yrows, ycols, yrs, ycs);
     match UpLo::try_from(uplo) {
-        Ok(uplo) => u8::from(product_complex::hemv::hemv(uplo, Complex { re: alphare, im: alphaim }, a, va, x, vx, Complex { re: betare, im: betaim }, y, vy)),
+        Ok(uplo) => u8::from(product_complex::hemv::hemv(
+            uplo,
+            Complex {
+                re: alphare,
+                im: alphaim,
+            },
+            a,
+            va,
+            x,
+            vx,
+            Complex {
+                re: betare,
+                im: betaim,
+            },
+            y,
+            vy,
+        )),
         Err(_) => u8::from(judge3(va, a.len() / 2, vx, x.len() / 2, vy, y.len() / 2, false)),
     }
 }
@@ -122,7 +154,24 @@ pub extern "C" fn zb_zgemm(
     let vb = View::new(bstart, brows, bcols, brs, bcs);
     let vc = View::new(cstart, crows, ccols, crs, ccs);
     match trans_trans(ta, tb) {
-        Ok((ta, tb)) => u8::from(product_complex::gemm::gemm(ta, tb, Complex { re: alphare, im: alphaim }, a, va, b, vb, Complex { re: betare, im: betaim }, c, vc)),
+        Ok((ta, tb)) => u8::from(product_complex::gemm::gemm(
+            ta,
+            tb,
+            Complex {
+                re: alphare,
+                im: alphaim,
+            },
+            a,
+            va,
+            b,
+            vb,
+            Complex {
+                re: betare,
+                im: betaim,
+            },
+            c,
+            vc,
+        )),
         Err(_) => u8::from(judge3(va, a.len() / 2, vb, b.len() / 2, vc, c.len() / 2, false)),
     }
 }
@@ -161,7 +210,24 @@ pub extern "C" fn zb_zsymm(
     let vb = View::new(bstart, brows, bcols, brs, bcs);
     let vc = View::new(cstart, crows, ccols, crs, ccs);
     match side_uplo(side, uplo) {
-        Ok((side, uplo)) => u8::from(product_complex::symm::symm(side, uplo, Complex { re: alphare, im: alphaim }, a, va, b, vb, Complex { re: betare, im: betaim }, c, vc)),
+        Ok((side, uplo)) => u8::from(product_complex::symm::symm(
+            side,
+            uplo,
+            Complex {
+                re: alphare,
+                im: alphaim,
+            },
+            a,
+            va,
+            b,
+            vb,
+            Complex {
+                re: betare,
+                im: betaim,
+            },
+            c,
+            vc,
+        )),
         Err(_) => u8::from(judge3(va, a.len() / 2, vb, b.len() / 2, vc, c.len() / 2, false)),
     }
 }
@@ -200,7 +266,24 @@ pub extern "C" fn zb_zhemm(
     let vb = View::new(bstart, brows, bcols, brs, bcs);
     let vc = View::new(cstart, crows, ccols, crs, ccs);
     match side_uplo(side, uplo) {
-        Ok((side, uplo)) => u8::from(product_complex::hemm::hemm(side, uplo, Complex { re: alphare, im: alphaim }, a, va, b, vb, Complex { re: betare, im: betaim }, c, vc)),
+        Ok((side, uplo)) => u8::from(product_complex::hemm::hemm(
+            side,
+            uplo,
+            Complex {
+                re: alphare,
+                im: alphaim,
+            },
+            a,
+            va,
+            b,
+            vb,
+            Complex {
+                re: betare,
+                im: betaim,
+            },
+            c,
+            vc,
+        )),
         Err(_) => u8::from(judge3(va, a.len() / 2, vb, b.len() / 2, vc, c.len() / 2, false)),
     }
 }
@@ -232,7 +315,22 @@ pub extern "C" fn zb_zsyrk(
     let va = View::new(astart, arows, acols, ars, acs);
     let vc = View::new(cstart, crows, ccols, crs, ccs);
     match uplo_trans(uplo, trans) {
-        Ok((uplo, trans)) => u8::from(product_complex::syrk::syrk(uplo, trans, Complex { re: alphare, im: alphaim }, a, va, Complex { re: betare, im: betaim }, c, vc)),
+        Ok((uplo, trans)) => u8::from(product_complex::syrk::syrk(
+            uplo,
+            trans,
+            Complex {
+                re: alphare,
+                im: alphaim,
+            },
+            a,
+            va,
+            Complex {
+                re: betare,
+                im: betaim,
+            },
+            c,
+            vc,
+        )),
         Err(_) => u8::from(judge2(va, a.len() / 2, vc, c.len() / 2, false)),
     }
 }
@@ -262,7 +360,9 @@ pub extern "C" fn zb_zherk(
     let va = View::new(astart, arows, acols, ars, acs);
     let vc = View::new(cstart, crows, ccols, crs, ccs);
     match uplo_trans(uplo, trans) {
-        Ok((uplo, trans)) => u8::from(product_complex::herk::herk(uplo, trans, alpha, a, va, beta, c, vc)),
+        Ok((uplo, trans)) => u8::from(product_complex::herk::herk(
+            uplo, trans, alpha, a, va, beta, c, vc,
+        )),
         Err(_) => u8::from(judge2(va, a.len() / 2, vc, c.len() / 2, false)),
     }
 }
@@ -326,7 +426,19 @@ pub extern "C" fn zb_zher2(
     let vy = View::new(ystart, yrows, ycols, yrs, ycs);
     let va = View::new(astart, arows, acols, ars, acs);
     match UpLo::try_from(uplo) {
-        Ok(uplo) => u8::from(rank::her2::her2::<Complex>(uplo, Complex { re: alphare, im: alphaim }, x, vx, y, vy, a, va)),
+        Ok(uplo) => u8::from(rank::her2::her2::<Complex>(
+            uplo,
+            Complex {
+                re: alphare,
+                im: alphaim,
+            },
+            x,
+            vx,
+            y,
+            vy,
+            a,
+            va,
+        )),
         Err(_) => u8::from(judge3(vx, x.len() / 2, vy, y.len() / 2, va, a.len() / 2, false)),
     }
 }
@@ -365,7 +477,24 @@ pub extern "C" fn zb_zsyr2k(
     let vb = View::new(bstart, brows, bcols, brs, bcs);
     let vc = View::new(cstart, crows, ccols, crs, ccs);
     match uplo_trans(uplo, trans) {
-        Ok((uplo, trans)) => u8::from(rank::syr2k::syr2k::<Complex>(uplo, trans, Complex { re: alphare, im: alphaim }, a, va, b, vb, Complex { re: betare, im: betaim }, c, vc)),
+        Ok((uplo, trans)) => u8::from(rank::syr2k::syr2k::<Complex>(
+            uplo,
+            trans,
+            Complex {
+                re: alphare,
+                im: alphaim,
+            },
+            a,
+            va,
+            b,
+            vb,
+            Complex {
+                re: betare,
+                im: betaim,
+            },
+            c,
+            vc,
+        )),
         Err(_) => u8::from(judge3(va, a.len() / 2, vb, b.len() / 2, vc, c.len() / 2, false)),
     }
 }
@@ -403,7 +532,21 @@ pub extern "C" fn zb_zher2k(
     let vb = View::new(bstart, brows, bcols, brs, bcs);
     let vc = View::new(cstart, crows, ccols, crs, ccs);
     match uplo_trans(uplo, trans) {
-        Ok((uplo, trans)) => u8::from(rank::her2k::her2k::<Complex>(uplo, trans, Complex { re: alphare, im: alphaim }, a, va, b, vb, beta, c, vc)),
+        Ok((uplo, trans)) => u8::from(rank::her2k::her2k::<Complex>(
+            uplo,
+            trans,
+            Complex {
+                re: alphare,
+                im: alphaim,
+            },
+            a,
+            va,
+            b,
+            vb,
+            beta,
+            c,
+            vc,
+        )),
         Err(_) => u8::from(judge3(va, a.len() / 2, vb, b.len() / 2, vc, c.len() / 2, false)),
     }
 }
@@ -432,7 +575,9 @@ pub extern "C" fn zb_ztrmv(
     let va = View::new(astart, arows, acols, ars, acs);
     let vx = View::new(xstart, xrows, xcols, xrs, xcs);
     match uplo_trans_diag(uplo, trans, diag) {
-        Ok((uplo, trans, diag)) => u8::from(triangle_complex::trmv::trmv(uplo, trans, diag, a, va, x, vx)),
+        Ok((uplo, trans, diag)) => u8::from(triangle_complex::trmv::trmv(
+            uplo, trans, diag, a, va, x, vx,
+        )),
         Err(_) => u8::from(judge2(va, a.len() / 2, vx, x.len() / 2, false)),
     }
 }
@@ -461,7 +606,9 @@ pub extern "C" fn zb_ztrsv(
     let va = View::new(astart, arows, acols, ars, acs);
     let vx = View::new(xstart, xrows, xcols, xrs, xcs);
     match uplo_trans_diag(uplo, trans, diag) {
-        Ok((uplo, trans, diag)) => u8::from(triangle_complex::trsv::trsv(uplo, trans, diag, a, va, x, vx)),
+        Ok((uplo, trans, diag)) => u8::from(triangle_complex::trsv::trsv(
+            uplo, trans, diag, a, va, x, vx,
+        )),
         Err(_) => u8::from(judge2(va, a.len() / 2, vx, x.len() / 2, false)),
     }
 }
@@ -493,7 +640,20 @@ pub extern "C" fn zb_ztrmm(
     let va = View::new(astart, arows, acols, ars, acs);
     let vb = View::new(bstart, brows, bcols, brs, bcs);
     match side_uplo_trans_diag(side, uplo, trans, diag) {
-        Ok((side, uplo, trans, diag)) => u8::from(triangle_complex::trmm::trmm(side, uplo, trans, diag, Complex { re: alphare, im: alphaim }, a, va, b, vb)),
+        Ok((side, uplo, trans, diag)) => u8::from(triangle_complex::trmm::trmm(
+            side,
+            uplo,
+            trans,
+            diag,
+            Complex {
+                re: alphare,
+                im: alphaim,
+            },
+            a,
+            va,
+            b,
+            vb,
+        )),
         Err(_) => u8::from(judge2(va, a.len() / 2, vb, b.len() / 2, false)),
     }
 }
@@ -525,7 +685,20 @@ pub extern "C" fn zb_ztrsm(
     let va = View::new(astart, arows, acols, ars, acs);
     let vb = View::new(bstart, brows, bcols, brs, bcs);
     match side_uplo_trans_diag(side, uplo, trans, diag) {
-        Ok((side, uplo, trans, diag)) => u8::from(triangle_complex::trsm::trsm(side, uplo, trans, diag, Complex { re: alphare, im: alphaim }, a, va, b, vb)),
+        Ok((side, uplo, trans, diag)) => u8::from(triangle_complex::trsm::trsm(
+            side,
+            uplo,
+            trans,
+            diag,
+            Complex {
+                re: alphare,
+                im: alphaim,
+            },
+            a,
+            va,
+            b,
+            vb,
+        )),
         Err(_) => u8::from(judge2(va, a.len() / 2, vb, b.len() / 2, false)),
     }
 }

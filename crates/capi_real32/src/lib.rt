@@ -42,7 +42,9 @@ pub extern "C" fn zb_sgemv(
     let vx = View::new(xstart, xrows, xcols, xrs, xcs);
     let vy = View::new(ystart, yrows, ycols, yrs, ycs);
     match Trans::try_from(trans) {
-        Ok(trans) => u8::from(product_real::gemv::gemv::<f32>(trans, alpha, a, va, x, vx, beta, y, vy)),
+        Ok(trans) => u8::from(product_real::gemv::gemv::<f32>(
+            trans, alpha, a, va, x, vx, beta, y, vy,
+        )),
         Err(_) => u8::from(judge3(va, a.len(), vx, x.len(), vy, y.len(), false)),
     }
 }
@@ -78,7 +80,9 @@ pub extern "C" fn zb_shemv(
     let vx = View::new(xstart, xrows, xcols, xrs, xcs);
     let vy = View::new(ystart, yrows, ycols, yrs, ycs);
     match UpLo::try_from(uplo) {
-        Ok(uplo) => u8::from(product_real::hemv::hemv::<f32>(uplo, alpha, a, va, x, vx, beta, y, vy)),
+        Ok(uplo) => u8::from(product_real::hemv::hemv::<f32>(
+            uplo, alpha, a, va, x, vx, beta, y, vy,
+        )),
         Err(_) => u8::from(judge3(va, a.len(), vx, x.len(), vy, y.len(), false)),
     }
 }
@@ -115,7 +119,9 @@ pub extern "C" fn zb_sgemm(
     let vb = View::new(bstart, brows, bcols, brs, bcs);
     let vc = View::new(cstart, crows, ccols, crs, ccs);
     match trans_trans(ta, tb) {
-        Ok((ta, tb)) => u8::from(product_real::gemm::gemm::<f32>(ta, tb, alpha, a, va, b, vb, beta, c, vc)),
+        Ok((ta, tb)) => u8::from(product_real::gemm::gemm::<f32>(
+            ta, tb, alpha, a, va, b, vb, beta, c, vc,
+        )),
         Err(_) => u8::from(judge3(va, a.len(), vb, b.len(), vc, c.len(), false)),
     }
 }
@@ -152,7 +158,9 @@ pub extern "C" fn zb_ssymm(
     let vb = View::new(bstart, brows, bcols, brs, bcs);
     let vc = View::new(cstart, crows, ccols, crs, ccs);
     match side_uplo(side, uplo) {
-        Ok((side, uplo)) => u8::from(product_real::symm::symm::<f32>(side, uplo, alpha, a, va, b, vb, beta, c, vc)),
+        Ok((side, uplo)) => u8::from(product_real::symm::symm::<f32>(
+            side, uplo, alpha, a, va, b, vb, beta, c, vc,
+        )),
         Err(_) => u8::from(judge3(va, a.len(), vb, b.len(), vc, c.len(), false)),
     }
 }
@@ -189,7 +197,9 @@ pub extern "C" fn zb_shemm(
     let vb = View::new(bstart, brows, bcols, brs, bcs);
     let vc = View::new(cstart, crows, ccols, crs, ccs);
     match side_uplo(side, uplo) {
-        Ok((side, uplo)) => u8::from(product_real::hemm::hemm::<f32>(side, uplo, alpha, a, va, b, vb, beta, c, vc)),
+        Ok((side, uplo)) => u8::from(product_real::hemm::hemm::<f32>(
+            side, uplo, alpha, a, va, b, vb, beta, c, vc,
+        )),
         Err(_) => u8::from(judge3(va, a.len(), vb, b.len(), vc, c.len(), false)),
     }
 }
@@ -219,7 +229,9 @@ pub extern "C" fn zb_ssyrk(
     let va = View::new(astart, arows, acols, ars, acs);
     let vc = View::new(cstart, crows, ccols, crs, ccs);
     match uplo_trans(uplo, trans) {
-        Ok((uplo, trans)) => u8::from(product_real::syrk::syrk::<f32>(uplo, trans, alpha, a, va, beta, c, vc)),
+        Ok((uplo, trans)) => u8::from(product_real::syrk::syrk::<f32>(
+            uplo, trans, alpha, a, va, beta, c, vc,
+        )),
         Err(_) => u8::from(judge2(va, a.len(), vc, c.len(), false)),
     }
 }
@@ -249,7 +261,9 @@ pub extern "C" fn zb_sherk(
     let va = View::new(astart, arows, acols, ars, acs);
     let vc = View::new(cstart, crows, ccols, crs, ccs);
     match uplo_trans(uplo, trans) {
-        Ok((uplo, trans)) => u8::from(product_real::herk::herk::<f32>(uplo, trans, alpha, a, va, beta, c, vc)),
+        Ok((uplo, trans)) => u8::from(product_real::herk::herk::<f32>(
+            uplo, trans, alpha, a, va, beta, c, vc,
+        )),
         Err(_) => u8::from(judge2(va, a.len(), vc, c.len(), false)),
     }
 }
@@ -349,7 +363,9 @@ pub extern "C" fn zb_ssyr2k(
     let vb = View::new(bstart, brows, bcols, brs, bcs);
     let vc = View::new(cstart, crows, ccols, crs, ccs);
     match uplo_trans(uplo, trans) {
-        Ok((uplo, trans)) => u8::from(rank::syr2k::syr2k::<f32>(uplo, trans, alpha, a, va, b, vb, beta, c, vc)),
+        Ok((uplo, trans)) => u8::from(rank::syr2k::syr2k::<f32>(
+            uplo, trans, alpha, a, va, b, vb, beta, c, vc,
+        )),
         Err(_) => u8::from(judge3(va, a.len(), vb, b.len(), vc, c.len(), false)),
     }
 }
@@ -386,7 +402,9 @@ pub extern "C" fn zb_sher2k(
     let vb = View::new(bstart, brows, bcols, brs, bcs);
     let vc = View::new(cstart, crows, ccols, crs, ccs);
     match uplo_trans(uplo, trans) {
-        Ok((uplo, trans)) => u8::from(rank::her2k::her2k::<f32>(uplo, trans, alpha, a, va, b, vb, beta, c, vc)),
+        Ok((uplo, trans)) => u8::from(rank::her2k::her2k::<f32>(
+            uplo, trans, alpha, a, va, b, vb, beta, c, vc,
+        )),
         Err(_) => u8::from(judge3(va, a.len(), vb, b.len(), vc, c.len(), false)),
     }
 }
@@ -415,7 +433,9 @@ pub extern "C" fn zb_strmv(
     let va = View::new(astart, arows, acols, ars, acs);
     let vx = View::new(xstart, xrows, xcols, xrs, xcs);
     match uplo_trans_diag(uplo, trans, diag) {
-        Ok((uplo, trans, diag)) => u8::from(triangle_real::trmv::trmv::<f32>(uplo, trans, diag, a, va, x, vx)),
+        Ok((uplo, trans, diag)) => u8::from(triangle_real::trmv::trmv::<f32>(
+            uplo, trans, diag, a, va, x, vx,
+        )),
         Err(_) => u8::from(judge2(va, a.len(), vx, x.len(), false)),
     }
 }
@@ -444,7 +464,9 @@ pub extern "C" fn zb_strsv(
     let va = View::new(astart, arows, acols, ars, acs);
     let vx = View::new(xstart, xrows, xcols, xrs, xcs);
     match uplo_trans_diag(uplo, trans, diag) {
-        Ok((uplo, trans, diag)) => u8::from(triangle_real::trsv::trsv::<f32>(uplo, trans, diag, a, va, x, vx)),
+        Ok((uplo, trans, diag)) => u8::from(triangle_real::trsv::trsv::<f32>(
+            uplo, trans, diag, a, va, x, vx,
+        )),
         Err(_) => u8::from(judge2(va, a.len(), vx, x.len(), false)),
     }
 }
@@ -475,7 +497,9 @@ pub extern "C" fn zb_strmm(
     let va = View::new(astart, arows, acols, ars, acs);
     let vb = View::new(bstart, brows, bcols, brs, bcs);
     match side_uplo_trans_diag(side, uplo, trans, diag) {
-        Ok((side, uplo, trans, diag)) => u8::from(triangle_real::trmm::trmm::<f32>(side, uplo, trans, diag, alpha, a, va, b, vb)),
+        Ok((side, uplo, trans, diag)) => u8::from(triangle_real::trmm::trmm::<f32>(
+            side, uplo, trans, diag, alpha, a, va, b, vb,
+        )),
         Err(_) => u8::from(judge2(va, a.len(), vb, b.len(), false)),
     }
 }
@@ -506,7 +530,9 @@ pub extern "C" fn zb_strsm(
     let va = View::new(astart, arows, acols, ars, acs);
     let vb = View::new(bstart, brows, bcols, brs, bcs);
     match side_uplo_trans_diag(side, uplo, trans, diag) {
-        Ok((side, uplo, trans, diag)) => u8::from(triangle_real::trsm::trsm::<f32>(side, uplo, trans, diag, alpha, a, va, b, vb)),
+        Ok((side, uplo, trans, diag)) => u8::from(triangle_real::trsm::trsm::<f32>(
+            side, uplo, trans, diag, alpha, a, va, b, vb,
+        )),
         Err(_) => u8::from(judge2(va, a.len(), vb, b.len(), false)),
     }
 }

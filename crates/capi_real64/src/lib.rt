@@ -42,7 +42,9 @@ pub extern "C" fn zb_dgemv(
     let vx = View::new(xstart, xrows, xcols, xrs, xcs);
     let vy = View::new(ystart, yrows, ycols, yrs, ycs);
     match Trans::try_from(trans) {
-        Ok(trans) => u8::from(product_real::gemv::gemv::<f64>(trans, alpha, a, va, x, vx, beta, y, vy)),
+        Ok(trans) => u8::from(product_real::gemv::gemv::<f64>(
+            trans, alpha, a, va, x, vx, beta, y, vy,
+        )),
         Err(_) => u8::from(judge3(va, a.len(), vx, x.len(), vy, y.len(), false)),
     }
 }
@@ -78,7 +80,9 @@ pub extern "C" fn zb_dhemv(
     let vx = View::new(xstart, xrows, xcols, xrs, xcs);
     let vy = View::new(ystart, yrows, ycols, yrs, ycs);
     match UpLo::try_from(uplo) {
-        Ok(uplo) => u8::from(product_real::hemv::hemv::<f64>(uplo, alpha, a, va, x, vx, beta, y, vy)),
+        Ok(uplo) => u8::from(product_real::hemv::hemv::<f64>(
+            uplo, alpha, a, va, x, vx, beta, y, vy,
+        )),
         Err(_) => u8::from(judge3(va, a.len(), vx, x.len(), vy, y.len(), false)),
     }
 }
@@ -115,7 +119,9 @@ pub extern "C" fn zb_dgemm(
     let vb = View::new(bstart, brows, bcols, brs, bcs);
     let vc = View::new(cstart, crows, ccols, crs, ccs);
     match trans_trans(ta, tb) {
-        Ok((ta, tb)) => u8::from(product_real::gemm::gemm::<f64>(ta, tb, alpha, a, va, b, vb, beta, c, vc)),
+        Ok((ta, tb)) => u8::from(product_real::gemm::gemm::<f64>(
+            ta, tb, alpha, a, va, b, vb, beta, c, vc,
+        )),
         Err(_) => u8::from(judge3(va, a.len(), vb, b.len(), vc, c.len(), false)),
     }
 }
@@ -152,7 +158,9 @@ pub extern "C" fn zb_dsymm(
     let vb = View::new(bstart, brows, bcols, brs, bcs);
     let vc = View::new(cstart, crows, ccols, crs, ccs);
     match side_uplo(side, uplo) {
-        Ok((side, uplo)) => u8::from(product_real::symm::symm::<f64>(side, uplo, alpha, a, va, b, vb, beta, c, vc)),
+        Ok((side, uplo)) => u8::from(product_real::symm::symm::<f64>(
+            side, uplo, alpha, a, va, b, vb, beta, c, vc,
+        )),
         Err(_) => u8::from(judge3(va, a.len(), vb, b.len(), vc, c.len(), false)),
     }
 }
@@ -189,7 +197,9 @@ pub extern "C" fn zb_dhemm(
     let vb = View::new(bstart, brows, bcols, brs, bcs);
     let vc = View::new(cstart, crows, ccols, crs, ccs);
     match side_uplo(side, uplo) {
-        Ok((side, uplo)) => u8::from(product_real::hemm::hemm::<f64>(side, uplo, alpha, a, va, b, vb, beta, c, vc)),
+        Ok((side, uplo)) => u8::from(product_real::hemm::hemm::<f64>(
+            side, uplo, alpha, a, va, b, vb, beta, c, vc,
+        )),
         Err(_) => u8::from(judge3(va, a.len(), vb, b.len(), vc, c.len(), false)),
     }
 }
@@ -219,7 +229,9 @@ pub extern "C" fn zb_dsyrk(
     let va = View::new(astart, arows, acols, ars, acs);
     let vc = View::new(cstart, crows, ccols, crs, ccs);
     match uplo_trans(uplo, trans) {
-        Ok((uplo, trans)) => u8::from(product_real::syrk::syrk::<f64>(uplo, trans, alpha, a, va, beta, c, vc)),
+        Ok((uplo, trans)) => u8::from(product_real::syrk::syrk::<f64>(
+            uplo, trans, alpha, a, va, beta, c, vc,
+        )),
         Err(_) => u8::from(judge2(va, a.len(), vc, c.len(), false)),
     }
 }
@@ -249,7 +261,9 @@ pub extern "C" fn zb_dherk(
     let va = View::new(astart, arows, acols, ars, acs);
     let vc = View::new(cstart, crows, ccols, crs, ccs);
     match uplo_trans(uplo, trans) {
-        Ok((uplo, trans)) => u8::from(product_real::herk::herk::<f64>(uplo, trans, alpha, a, va, beta, c, vc)),
+        Ok((uplo, trans)) => u8::from(product_real::herk::herk::<f64>(
+            uplo, trans, alpha, a, va, beta, c, vc,
+        )),
         Err(_) => u8::from(judge2(va, a.len(), vc, c.len(), false)),
     }
 }
@@ -349,7 +363,9 @@ pub extern "C" fn zb_dsyr2k(
     let vb = View::new(bstart, brows, bcols, brs, bcs);
     let vc = View::new(cstart, crows, ccols, crs, ccs);
     match uplo_trans(uplo, trans) {
-        Ok((uplo, trans)) => u8::from(rank::syr2k::syr2k::<f64>(uplo, trans, alpha, a, va, b, vb, beta, c, vc)),
+        Ok((uplo, trans)) => u8::from(rank::syr2k::syr2k::<f64>(
+            uplo, trans, alpha, a, va, b, vb, beta, c, vc,
+        )),
         Err(_) => u8::from(judge3(va, a.len(), vb, b.len(), vc, c.len(), false)),
     }
 }
@@ -386,7 +402,9 @@ pub extern "C" fn zb_dher2k(
     let vb = View::new(bstart, brows, bcols, brs, bcs);
     let vc = View::new(cstart, crows, ccols, crs, ccs);
     match uplo_trans(uplo, trans) {
-        Ok((uplo, trans)) => u8::from(rank::her2k::her2k::<f64>(uplo, trans, alpha, a, va, b, vb, beta, c, vc)),
+        Ok((uplo, trans)) => u8::from(rank::her2k::her2k::<f64>(
+            uplo, trans, alpha, a, va, b, vb, beta, c, vc,
+        )),
         Err(_) => u8::from(judge3(va, a.len(), vb, b.len(), vc, c.len(), false)),
     }
 }
@@ -415,7 +433,9 @@ pub extern "C" fn zb_dtrmv(
     let va = View::new(astart, arows, acols, ars, acs);
     let vx = View::new(xstart, xrows, xcols, xrs, xcs);
     match uplo_trans_diag(uplo, trans, diag) {
-        Ok((uplo, trans, diag)) => u8::from(triangle_real::trmv::trmv::<f64>(uplo, trans, diag, a, va, x, vx)),
+        Ok((uplo, trans, diag)) => u8::from(triangle_real::trmv::trmv::<f64>(
+            uplo, trans, diag, a, va, x, vx,
+        )),
         Err(_) => u8::from(judge2(va, a.len(), vx, x.len(), false)),
     }
 }
@@ -444,7 +464,9 @@ pub extern "C" fn zb_dtrsv(
     let va = View::new(astart, arows, acols, ars, acs);
     let vx = View::new(xstart, xrows, xcols, xrs, xcs);
     match uplo_trans_diag(uplo, trans, diag) {
-        Ok((uplo, trans, diag)) => u8::from(triangle_real::trsv::trsv::<f64>(uplo, trans, diag, a, va, x, vx)),
+        Ok((uplo, trans, diag)) => u8::from(triangle_real::trsv::trsv::<f64>(
+            uplo, trans, diag, a, va, x, vx,
+        )),
         Err(_) => u8::from(judge2(va, a.len(), vx, x.len(), false)),
     }
 }
@@ -475,7 +497,9 @@ pub extern "C" fn zb_dtrmm(
     let va = View::new(astart, arows, acols, ars, acs);
     let vb = View::new(bstart, brows, bcols, brs, bcs);
     match side_uplo_trans_diag(side, uplo, trans, diag) {
-        Ok((side, uplo, trans, diag)) => u8::from(triangle_real::trmm::trmm::<f64>(side, uplo, trans, diag, alpha, a, va, b, vb)),
+        Ok((side, uplo, trans, diag)) => u8::from(triangle_real::trmm::trmm::<f64>(
+            side, uplo, trans, diag, alpha, a, va, b, vb,
+        )),
         Err(_) => u8::from(judge2(va, a.len(), vb, b.len(), false)),
     }
 }
@@ -506,7 +530,9 @@ pub extern "C" fn zb_dtrsm(
     let va = View::new(astart, arows, acols, ars, acs);
     let vb = View::new(bstart, brows, bcols, brs, bcs);
     match side_uplo_trans_diag(side, uplo, trans, diag) {
-        Ok((side, uplo, trans, diag)) => u8::from(triangle_real::trsm::trsm::<f64>(side, uplo, trans, diag, alpha, a, va, b, vb)),
+        Ok((side, uplo, trans, diag)) => u8::from(triangle_real::trsm::trsm::<f64>(
+            side, uplo, trans, diag, alpha, a, va, b, vb,
+        )),
         Err(_) => u8::from(judge2(va, a.len(), vb, b.len(), false)),
     }
 }

@@ -51,5 +51,7 @@ pub fn waypoints(line: &[f64], way: &mut [f64]) -> Answer {
     let right = matrix(0, 2, 3, 3);
     let target = matrix(0, 5, 3, 3);
     let as_is = Trans::NoTrans;
-    gemm::<f64>(as_is, as_is, 1.0, &stations, left, line, right, 0.0, way, target)
+    gemm::<f64>(
+        as_is, as_is, 1.0, &stations, left, line, right, 0.0, way, target,
+    )
 }
