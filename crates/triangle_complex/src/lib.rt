@@ -1,12 +1,12 @@
-// The triangular products and solves of complex numbers. kind.rt has the names that differ from kind to kind.
+// The triangular products and solves of complex numbers, four lines of the target at a time.
 // Translated from control-rs; NOTICE names the source.
 
 #![tactic(auto)]
 
-mod kind;
-mod line;
 pub mod trmm;
 pub mod trmv;
 pub mod trsm;
 pub mod trsv;
-mod unknown;
+
+// How many lines are worked out side by side.
+const LANES: usize = 4;

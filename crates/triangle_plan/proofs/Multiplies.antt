@@ -276,16 +276,6 @@ module _ (K : Kind) (L : SlabLaws K) (W : Swaps K) (C : Commutes K) (side : Side
 -- ---- as the engine meets it
 
 module _ (K : Kind) (y : System) (a : List K.Cell) (begin : K.Elem → K.Elem) where
-  -- one element, by parts
-  pub multiply-one-is : (k l q m at : ℕ) (last : Bool) (x z : K.Elem) (s s' : List K.Cell) → last ≡ not y.last → m ≡ y.b.rows → q ≡ in_order last m k
-      → at ≡ index y.b q l → x ≡ line_sum K y a s q l → z ≡ begin x → s' ≡ K.put s at z → s' ≡ multiply_one K y a begin k l s
-  unfolding multiply_one
-  multiply-one-is k l q m at last x z s s' turned counted here placed summed weighed e =
-      let found : q ≡ in_order (not y.last) y.b.rows k = here ∙ (λ i. in_order (turned i) (counted i) k) in
-      e
-      ∙ (λ i. K.put s (placed i) ((weighed ∙ ap begin summed) i))
-      ∙ (λ i. K.put s (index y.b (found i) l) (begin (line_sum K y a s (found i) l)))
-
   -- a vector is one line
   pub only-line : (m : ℕ) (s s' : List K.Cell) → y.b.cols ≡ 1 → m ≡ y.b.rows → s' ≡ walk m (λ k. multiply_one K y a begin k 0) s → s' ≡ multiply_all K y a begin s
   unfolding walk

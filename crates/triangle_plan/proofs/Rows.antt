@@ -2,7 +2,6 @@
 use Prim.Native.Nat.{ℕ, zero, suc, ◌+◌, ◌-◌, ◌≤◌, ◌<◌}
 use mathlib.Core.Bool.{Bool, true, false, not, cond}
 use mathlib.Core.List.{List}
-use lib.ListN.{length}
 use mathlib.Core.Path.{◌≡◌, refl, ap, sym, subst, ◌∙◌}
 use native.Mathlib.Omega.{arith}
 use Rattle.number.specs.Kind.{Kind}
@@ -14,7 +13,7 @@ use Rattle.slabs.specs.Distinct.{Distinct}
 use Rattle.slabs.specs.Eight.{lane, Lanes}
 use Rattle.slabs.specs.Elem.{elem, Within}
 use Rattle.slabs.specs.Run.{plus_terms}
-use Rattle.slabs.proofs.RunLaws.{elem-own, plus-first, plus-on, plus-done, run-run}
+use Rattle.slabs.proofs.RunLaws.{elem-own, run-run}
 use Rattle.blas.specs.Substitution.{in_order}
 use Rattle.blas.proofs.OpLaws.{transposed-elem}
 use Rattle.blas.proofs.SubstitutionLaws.{in-order-lt}
@@ -26,19 +25,20 @@ use Rattle.triangle_plan.specs.Triangles.{coefficient}
 use Rattle.triangle_plan.specs.Ready.{ReadyAt, RowsReady}
 use Rattle.triangle_plan.proofs.LineSums.{more-cong, line-behind, line_before}
 use Rattle.triangle_plan.proofs.WalkLaws.{walk-cong}
+use Rattle.triangle_plan.proofs.Runs.{more_on}
 
 -- ---- what the rows read
 
 module _ (y : System) (la lb q : ℕ) (r : RowsReady y la lb q) where
-  pub row-ready : (t : ℕ) → t < 8 → ReadyAt y la lb (q + t) 0
-  row-ready t h = record { ready = r.ready; unknown = omega (arith, r.room); line = omega (arith, r.one) }
+  pub row_ready : (t : ℕ) → t < 8 → ReadyAt y la lb (q + t) 0
+  row_ready t h = record { ready = r.ready; unknown = omega (arith, r.room); line = omega (arith, r.one) }
 
   -- the eight coefficients of unknown p
-  pub rows-shown : (p : ℕ) → p < y.b.rows → Within (transposed_of y.a) la p (q + 7)
-  rows-shown p h = record {
+  pub rows_shown : (p : ℕ) → p < y.b.rows → (t : ℕ) → t < 8 → Within (transposed_of y.a) la p (q + t)
+  rows_shown p h t g = record {
     fits = transposed-accepted y.a la r.ready.pivots.a;
     row = subst (λ (m : ℕ). p < m) (sym r.ready.pivots.cols) h;
-    col = subst (λ (m : ℕ). q + 7 < m) (sym r.ready.pivots.rows) (omega (arith, r.room));
+    col = subst (λ (m : ℕ). q + t < m) (sym r.ready.pivots.rows) (omega (arith, r.room));
   }
 
 -- ---- terms added to each of eight rows, from unknown `from` on
@@ -50,24 +50,15 @@ module _ (K : Kind) (S : SelfConjugate K) (C : Commutes K) (y : System) (a b : L
   abbrev more_rows : ℕ → ℕ → K.Elem
   more_rows n t = plus_terms K (lane K xs t) (row_term t) from n
 
-  pub rows-first : length xs ≡ 8 → Lanes K 8 xs (more_rows (from - from))
-  rows-first many = record { count = many; sum = λ t g. plus-first K (row_term t) (lane K xs t) from }
-
   -- x is unknown p; the factors are multiplied in the other order
   pub rows_on : (p : ℕ) (ys zs : List K.Elem) (x : K.Elem) → from ≤ p → x ≡ elem K b y.b p 0 → Lanes K 8 ys (more_rows (p - from))
       → Lanes K 8 zs (λ t. K.add (lane K ys t) (K.mul x (elem K a (transposed_of y.a) p (q + t)))) → Lanes K 8 zs (more_rows (p + 1 - from))
-  rows_on p ys zs x h read e d = record {
-    count = d.count;
-    sum = λ t g. plus-on K (row_term t) (lane K xs t) from p (lane K ys t) (K.mul x (elem K a (transposed_of y.a) p (q + t))) (lane K zs t) h (e.sum t g) (is-term t) (d.sum t g);
-  }
+  rows_on p ys zs x h read e d = more_on K 8 row_term from xs p ys zs (λ t. K.mul x (elem K a (transposed_of y.a) p (q + t))) h is-term e d
     where
       is-term : (t : ℕ) → K.mul x (elem K a (transposed_of y.a) p (q + t)) ≡ row_term t p
       is-term t =
           C.commutes x (elem K a (transposed_of y.a) p (q + t))
           ∙ (λ i. K.mul ((transposed-elem K a y.a p (q + t) ∙ elem-own K S y.conjugated a y.a (q + t) p) i) (read i))
-
-  pub rows-done : (n p end : ℕ) (ys : List K.Elem) → end ≡ from + n → p ≤ end → end ≤ p → Lanes K 8 ys (more_rows (p - from)) → Lanes K 8 ys (more_rows n)
-  rows-done n p end ys counted h g e = record { count = e.count; sum = λ t k. plus-done K (row_term t) (lane K xs t) from n p end (lane K ys t) counted h g (e.sum t k) }
 
 -- ---- a row's pieces are its sum
 

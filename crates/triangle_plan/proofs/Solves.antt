@@ -62,38 +62,12 @@ clear_next f n b cleared told h = record { none = λ i g. go i (ℕ_discrete i n
     go i (no q) g = cleared.none i (omega arith)
 
 -- a loop that stops at k
-pub first_found : (f : ℕ → Bool) (n m k : ℕ) (b : Bool) → m ≡ n → k < m → Clear f k → b ≡ f k → b ≡ true → k ≡ first_at n f
-first_found f n m k b e h cleared told t = sym (first-is n f k (subst (λ (x : ℕ). k < x) e h) (sym told ∙ t) cleared.none)
+pub first_found : (f : ℕ → Bool) (n k : ℕ) (b : Bool) → k < n → Clear f k → b ≡ f k → b ≡ true → k ≡ first_at n f
+first_found f n k b h cleared told t = sym (first-is n f k h (sym told ∙ t) cleared.none)
 
 -- and one that does not stop
-pub first-nowhere : (f : ℕ → Bool) (n m k : ℕ) → m ≡ n → k ≤ m → m ≤ k → Clear f k → k ≡ first_at n f
-first-nowhere f n m k e h g cleared =
-    let all : k ≡ n = omega arith in
-    all ∙ sym (first-none n f (subst (λ (x : ℕ). (i : ℕ) → i < x → f i ≡ false) all cleared.none))
-
--- ---- one unknown, by parts
-
-module _ (K : Kind) (y : System) (a : List K.Cell) where
-  pub solve-one-is : (begin : K.Elem → K.Elem) (k l m q from n : ℕ) (w x r z : K.Elem) (s s' : List K.Cell) → m ≡ y.b.rows → q ≡ in_order y.last m k
-      → from ≡ least_solved y.last m k → w ≡ elem K s y.b q l → x ≡ begin w
-      → r ≡ minus_terms K x (λ p. K.mul (coefficient K y a q p) (elem K s y.b p l)) from k → z ≡ by_diag K y.diag (coefficient K y a q q) r
-      → n ≡ index y.b q l → s' ≡ K.put s n z → s' ≡ solve_unknown K y begin a k l s
-  unfolding solve_unknown
-  solve-one-is begin k l m q from n w x r z s s' counted here there taken started rest divided placed e =
-      e
-      ∙ (λ i. K.put s (placed i) ((divided ∙ ap (by_diag K y.diag (coefficient K y a q q)) (rest ∙ ap (λ (v : K.Elem). minus_terms K v (λ p. K.mul (coefficient K y a q p) (elem K s y.b p l)) from k) (started ∙ ap begin taken))) i))
-      ∙ (λ i. value (here i) (there i))
-      ∙ ap (λ (c : ℕ). value (in_order y.last c k) (least_solved y.last c k)) counted
-    where
-      value : ℕ → ℕ → List K.Cell
-      value u f =
-          K.put s (index y.b u l)
-          (by_diag K y.diag (coefficient K y a u u) (minus_terms K (begin (elem K s y.b u l)) (λ p. K.mul (coefficient K y a u p) (elem K s y.b p l)) f k))
-
-  pub meets-is : (k m q : ℕ) (b : Bool) → m ≡ y.b.rows → q ≡ in_order y.last m k → b ≡ zero_diag K y.diag (elem K a y.a q q) → b ≡ zero_after K y a k
-  unfolding zero_after
-  meets-is k m q b counted here told =
-      told ∙ ap (λ (u : ℕ). zero_diag K y.diag (elem K a y.a u u)) (here ∙ ap (λ (c : ℕ). in_order y.last c k) counted)
+pub first_nowhere : (f : ℕ → Bool) (n k : ℕ) → n ≤ k → Clear f k → n ≡ first_at n f
+first_nowhere f n k h cleared = sym (first-none n f (λ i g. cleared.none i (omega arith)))
 
 -- ---- one unknown is the definition's
 
@@ -340,8 +314,8 @@ module _ (K : Kind) (y : System) (a : List K.Cell) where
   reach-le : reach ≤ y.b.rows
   reach-le = first-le y.b.rows (zero_after K y a)
 
-  pub unknowns-in : (k : ℕ) → k ≡ first_zero K y a → k ≤ y.b.rows
-  unknowns-in k met = subst (λ (n : ℕ). n ≤ y.b.rows) (sym met) reach-le
+  pub unknowns_in : (k : ℕ) → k ≡ first_zero K y a → k ≤ y.b.rows
+  unknowns_in k met = subst (λ (n : ℕ). n ≤ y.b.rows) (sym met) reach-le
 
   stops-below : 0 < y.b.cols → reach < y.b.rows → stops y reach ≡ true
   unfolding stops
@@ -419,26 +393,17 @@ module _ (K : Kind) (C : Commutes K) (uplo : UpLo) (t : Trans) (diag : Diag) (be
 -- ---- the ways out of a solve
 
 -- the lines that are solved are lines of B
-pub lines-in : (side : Side) (y : System) (k n c : ℕ) (b : Bool) → b ≡ stops y k → n ≡ y.b.cols → c ≡ lines_solved side b n → c ≤ y.b.cols
+pub lines_in : (side : Side) (y : System) (k c : ℕ) (b : Bool) → b ≡ stops y k → c ≡ lines_solved side b y.b.cols → c ≤ y.b.cols
 unfolding stops
-lines-in Left y k n c true told wide e =
+lines_in Left y k c true told e =
     let h : 0 < y.b.cols = ltb-true 0 y.b.cols (and_left (ltb 0 y.b.cols) (ltb k y.b.rows) (sym told)) in
     omega (arith, h, e)
-lines-in Left y k n c false told wide e = omega arith
-lines-in Right y k n c b told wide e = omega arith
+lines_in Left y k c false told e = omega arith
+lines_in Right y k c b told e = omega arith
 
 module _ (K : Kind) (y : System) (begin : K.Elem → K.Elem) (a s₀ : List K.Cell) where
-  pub lines-solved : (k n c : ℕ) (b : Bool) (r : Answer) (s : List K.Cell) → k ≡ first_zero K y a → b ≡ stops y k → n ≡ y.b.cols → c ≡ lines_solved y.side b n
-      → r ≡ answered b → s ≡ solve_unknowns K y begin a c k s₀ → Solved K y begin a s₀ r s
-  lines-solved k n c b r s met told wide counted answers e =
-      let t : b ≡ stops y (first_zero K y a) = told ∙ ap (stops y) met in
-      record {
-        answer = answers ∙ ap answered t;
-        slab = e ∙ (λ i. solve_unknowns K y begin a ((counted ∙ (λ j. lines_solved y.side (t j) (wide j))) i) (met i) s₀);
-      }
-
   -- a vector, of one line
-  module _ (k m : ℕ) (s : List K.Cell) (one : y.b.cols ≡ 1) (counted : m ≡ y.b.rows) (met : k ≡ first_zero K y a) (e : s ≡ walk k (λ i. solve_unknown K y begin a i 0) s₀) where
+  module _ (k : ℕ) (s : List K.Cell) (one : y.b.cols ≡ 1) (met : k ≡ first_zero K y a) (e : s ≡ walk k (λ i. solve_unknown K y begin a i 0) s₀) where
     one_line : (side : Side) (b : Bool) → 1 ≡ lines_solved side b y.b.cols
     one_line Left true = refl
     one_line Left false = sym one
@@ -448,8 +413,8 @@ module _ (K : Kind) (y : System) (begin : K.Elem → K.Elem) (a s₀ : List K.Ce
     unfolding walk
     vector-left = e ∙ (λ i. solve_unknowns K y begin a (one_line y.side (stops y (first_zero K y a)) i) (met i) s₀)
 
-    pub vector-stopped : k < m → Solved K y begin a s₀ Singular s
-    vector-stopped h = record { answer = sym (ap answered (stops-below K y a (omega arith) (omega (arith, h, met, counted)))); slab = vector-left }
+    pub vector_stopped : k < y.b.rows → Solved K y begin a s₀ Singular s
+    vector_stopped h = record { answer = sym (ap answered (stops-below K y a (omega arith) (omega (arith, h, met)))); slab = vector-left }
 
-    pub vector-done : m ≤ k → Solved K y begin a s₀ Done s
-    vector-done h = record { answer = sym (ap answered (stops-not K y a (omega (arith, h, met, counted)))); slab = vector-left }
+    pub vector_done : y.b.rows ≤ k → Solved K y begin a s₀ Done s
+    vector_done h = record { answer = sym (ap answered (stops-not K y a (omega (arith, h, met)))); slab = vector-left }

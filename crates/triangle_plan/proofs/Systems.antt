@@ -1,5 +1,5 @@
 -- What a system reads and writes is inside the slabs, and is what the definitions mean.
-use Prim.Native.Nat.{ℕ, ◌+◌, ◌<◌, ◌≤◌}
+use Prim.Native.Nat.{ℕ, ◌+◌, ◌<◌}
 use mathlib.Core.Bool.{cond}
 use mathlib.Core.List.{List}
 use mathlib.Core.Path.{◌≡◌, refl, ap, sym, subst, ◌∙◌}
@@ -18,13 +18,12 @@ use Rattle.view.specs.Steps.{Accepted}
 use Rattle.view.specs.Vector.{column_of}
 use Rattle.slabs.specs.Distinct.{Distinct}
 use Rattle.slabs.specs.Elem.{elem, Within}
-use Rattle.slabs.specs.Run.{Spans}
 use Rattle.blas.specs.Matrix.{Matrix, op}
 use Rattle.blas.specs.Substitution.{unknown_at, unknown}
 use Rattle.blas.proofs.OpLaws.{op-elem, transposed-elem}
 use Rattle.triangle_plan.specs.declared.System.{System}
 use Rattle.triangle_plan.specs.Triangles.{lines_view, system_of, coefficient}
-use Rattle.triangle_plan.specs.Ready.{Pivots, Ready, ReadyAt, Sided}
+use Rattle.triangle_plan.specs.Ready.{Ready, LinesReady, Sided}
 
 -- ---- what is read
 
@@ -65,10 +64,6 @@ lines-index Right v p l = transposed-index v p l
 
 pub lines-elem : (K : Kind) (s : List K.Cell) (side : Side) (v : View) (p l : ℕ) → elem K s (lines_view side v) p l ≡ unknown K side s v p l
 lines-elem K s side v p l = ap (K.at s) (lines-index side v p l)
-
--- a product of what was read
-pub weighed : (K : Kind) (c c' x x' z : K.Elem) → c ≡ c' → x ≡ x' → z ≡ K.mul c x → z ≡ K.mul c' x'
-weighed K c c' x x' z h g e = e ∙ (λ i. K.mul (h i) (g i))
 
 -- ---- that it is inside
 
@@ -117,43 +112,17 @@ module _ (uplo : UpLo) (t : Trans) (diag : Diag) (va : View) (la : ℕ) (vb : Vi
 pub one_line : (uplo : UpLo) (t : Trans) (diag : Diag) (a v x : View) (y : System) → v ≡ column_of x → y ≡ system_of Left uplo t diag a v → y.b.cols ≡ 1
 one_line uplo t diag a v x y columned made = ap (λ (z : System). z.b.cols) made ∙ ap (λ (z : View). z.cols) columned
 
-module _ (y : System) (la lb : ℕ) where
-  -- on a slab that keeps its length
-  pub ready-kept : (lb' : ℕ) → Ready y la lb → lb' ≡ lb → Ready y la lb'
-  ready-kept lb' r kept = subst (λ (n : ℕ). Ready y la n) (sym kept) r
+-- ---- what w lines read and write
 
-  pub pivot-shown : (q : ℕ) → Pivots y la → q < y.b.rows → Within y.a la q q
-  pivot-shown q r h =
-      record { fits = r.a; row = subst (λ (m : ℕ). q < m) (sym r.rows) h; col = subst (λ (m : ℕ). q < m) (sym r.cols) h }
-
-  module _ (r : Ready y la lb) where
-    pub unknown-shown : (p l : ℕ) → p < y.b.rows → l < y.b.cols → Within y.b lb p l
-    unknown-shown p l h g = record { fits = r.b; row = h; col = g }
-
-    -- n terms of row q by column l
-    pub run-spans : (q l from n : ℕ) → q < y.b.rows → l < y.b.cols → from + n ≤ y.b.rows → Spans y.a la y.b lb q l from n
-    run-spans q l from n h g room = record {
-      left = λ p k. record {
-        fits = r.pivots.a;
-        row = subst (λ (m : ℕ). q < m) (sym r.pivots.rows) h;
-        col = subst (λ (m : ℕ). from + p < m) (sym r.pivots.cols) (omega arith);
-      };
-      right = λ p k. unknown-shown (from + p) l (omega arith) g;
-    }
-
-  -- unknown q, or the one that comes after q others, of line l, on a slab that keeps its length
-  pub ready_for : (lb' m n q l : ℕ) → Ready y la lb → lb' ≡ lb → m ≡ y.b.rows → n ≡ y.b.cols → q < m → l < n → ReadyAt y la lb' q l
-  ready_for lb' m n q l r kept counted wide h g = record {
-    ready = ready-kept lb' r kept;
-    unknown = subst (λ (k : ℕ). q < k) counted h;
-    line = subst (λ (k : ℕ). l < k) wide g;
+module _ (y : System) (la lb q l w : ℕ) (r : LinesReady y la lb q l w) where
+  -- the coefficients of unknown q
+  pub coefficient_shown : (p : ℕ) → p < y.b.rows → Within y.a la q p
+  coefficient_shown p h = record {
+    fits = r.ready.pivots.a;
+    row = subst (λ (m : ℕ). q < m) (sym r.ready.pivots.rows) r.unknown;
+    col = subst (λ (m : ℕ). p < m) (sym r.ready.pivots.cols) h;
   }
 
--- ---- an element of a row of B, whose slab keeps its length
-
-pub in_row : (vb : View) (lb lb' i j n : ℕ) → Accepted vb lb → lb' ≡ lb → i < vb.rows → n ≡ vb.cols → j < n → Within vb lb' i j
-in_row vb lb lb' i j n a kept h e g =
-    record { fits = subst (λ (x : ℕ). Accepted vb x) (sym kept) a; row = h; col = subst (λ (x : ℕ). j < x) e g }
-
-pub row_in : (vb : View) (lb lb' i m : ℕ) → Accepted vb lb → lb' ≡ lb → m ≡ vb.rows → i < m → Accepted vb lb' × (i < vb.rows)
-row_in vb lb lb' i m a kept e g = (subst (λ (x : ℕ). Accepted vb x) (sym kept) a, subst (λ (x : ℕ). i < x) e g)
+  -- unknown p in each line
+  pub lanes_shown : (p : ℕ) → p < y.b.rows → (t : ℕ) → t < w → Within y.b lb p (l + t)
+  lanes_shown p h t g = record { fits = r.ready.b; row = h; col = omega (arith, r.lines) }

@@ -1,5 +1,5 @@
 -- Steps one after another: as a loop meets them, in two parts, and a loop in a loop.
-use Prim.Native.Nat.{ℕ, zero, suc, ◌+◌, ◌*◌, ◌≤◌, ◌<◌}
+use Prim.Native.Nat.{ℕ, zero, suc, ◌+◌, ◌-◌, ◌*◌, ◌≤◌, ◌<◌}
 use mathlib.Core.Path.{◌≡◌, refl, ap, sym, subst, ◌∙◌}
 use native.Mathlib.Numerals.{add-one}
 use native.Mathlib.Omega.{arith}
@@ -19,6 +19,22 @@ module _ {A : Type 0} (f : ℕ → A → A) (s₀ : A) where
   walk_end i n s h g e =
       let q : i ≡ n = omega arith in
       subst (λ (k : ℕ). s ≡ walk k f s₀) q e
+
+  pub walk_one : (t : A) → t ≡ walk 1 f s₀ → t ≡ f 0 s₀
+  unfolding walk
+  walk_one t h = h
+
+  -- a loop over the steps from `from` on, which are steps 0 on
+  pub walk_first : (from : ℕ) → s₀ ≡ walk (from - from) f s₀
+  unfolding walk
+  walk_first from =
+      let none : 0 ≡ from - from = omega arith in
+      ap (λ (n : ℕ). walk n f s₀) none
+
+  pub walk_on : (from p : ℕ) (s t : A) → from ≤ p → s ≡ walk (p - from) f s₀ → t ≡ f (p - from) s → t ≡ walk (p + 1 - from) f s₀
+  walk_on from p s t h e d =
+      let next : p - from + 1 ≡ p + 1 - from = omega arith in
+      walk-next (p - from) s t e d ∙ ap (λ (n : ℕ). walk n f s₀) next
 
   -- n steps and k more
   walk-add : (n k : ℕ) → walk k (λ i. f (n + i)) (walk n f s₀) ≡ walk (n + k) f s₀

@@ -1,6 +1,6 @@
 -- What the triangular engine asks of its caller: that what it reads and writes is inside the slabs, of la and lb elements, and that what it
 -- writes lies apart.
-use Rattle.std.specs.Prelude.{ℕ, ◌+◌, ◌≤◌, ◌<◌, ◌≡◌}
+use Rattle.std.specs.Prelude.{ℕ, ◌+◌, ◌^◌, ◌≤◌, ◌<◌, ◌≡◌}
 use Rattle.view.specs.declared.View.{View}
 use Rattle.view.specs.declared.Side.{Side}
 use Rattle.view.specs.Checks.{order_of}
@@ -25,11 +25,22 @@ pub record ReadyAt (y : System) (la lb q l : ℕ) : Type 0 where
   pub unknown : q < y.b.rows
   pub line : l < y.b.cols
 
+-- w lines side by side: some, and as many as memory has room for
+pub record Wide (w : ℕ) : Type 0 where
+  pub some : 0 < w
+  pub few : w < 2 ^ 16
+
 -- the same of w lines, from line l on
 pub record LinesReady (y : System) (la lb q l w : ℕ) : Type 0 where
   pub ready : Ready y la lb
+  pub wide : Wide w
   pub unknown : q < y.b.rows
   pub lines : l + w ≤ y.b.cols
+
+-- w of n lines may be taken at a time: there are as many, or none at all
+pub record Taken (w n : ℕ) : Type 0 where
+  pub wide : Wide w
+  pub room : 0 < n → w ≤ n
 
 -- the eight unknowns from q on, or those that come after q others, of one line
 pub record RowsReady (y : System) (la lb q : ℕ) : Type 0 where
