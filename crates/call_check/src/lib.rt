@@ -1,10 +1,10 @@
 // The check of each routine: the answer that the refusals 1 to 4 give, or Done. Arguments in the Rust's order, each view
-// with the length of its slab in elements, as the definitions (view, specs/Checks) and the theorems on them have it; flags
-// that no shape rule looks at are left out. Each takes what the quick test of the call answered: a call that passed it is
-// done.
+// with the length of its slab in elements, as the definitions (view, specs/Checks) and the theorems on them have it;
+// flags that no shape rule looks at are left out. Each takes what the quick test of the call answered: a call that
+// passed it is done.
 //
-// A view is passed by its place in memory. So what takes views is put into its caller, which then need not store them, and
-// what is called takes numbers (`within`, `steps_meet`).
+// A view is passed by its place in memory. So what takes views is put into its caller, which then need not store them,
+// and what is called takes numbers (`within`, `steps_meet`).
 
 #![tactic(auto)]
 

@@ -1,7 +1,7 @@
 // Quick tests that pass calls as most are: views of at least one element, with small starts and with strides that are
-// small and not negative. What each answers is a definition (specs/Quick). A call that one passes is not refused; one that
-// they do not pass is judged in full.
-ghost use Rattle.std.specs.Prelude.{◌≡◌, true, ◌≤◌, ◌^◌};
+// small and not negative. What each answers is a definition (specs/Quick). A call that one passes is not refused; one
+// that they do not pass is judged in full.
+ghost use Rattle.std.specs.Prelude.{◌≡◌, true, ◌≤◌, ◌^◌, negsuc, MatchOption};
 ghost use Rattle.call_check.specs.Quick as specs;
 
 use crate::bounds::LIMIT;
@@ -81,37 +81,42 @@ fn written(v: View, len: usize) -> bool
     plain(v, len) && apart(v)
 }
 
-// The stride along a vector of length n; -1 for what is none.
+// The stride along a vector of length n, down a column or along a row.
 #[tactic(auto, unfolding(crate::specs::Quick::stride_of))]
-fn stride_of(v: View, n: usize) -> i64
-    ensures { result ≡ specs.stride_of v n }
+fn stride_of(v: View, n: usize) -> Option<i64>
+    ensures { MatchOption result (specs.stride_of v n ≡ negsuc 0) (λ z. specs.stride_of v n ≡ z) }
 {
     if v.cols == 1 && v.rows == n {
-        v.rs
+        Some(v.rs)
     } else if v.rows == 1 && v.cols == n {
-        v.cs
+        Some(v.cs)
     } else {
-        -1
+        None
     }
 }
 
 // Whether a vector of length n is in bounds.
-#[tactic(auto, unfolding(crate::specs::Quick::plain_vector, crate::specs::Quick::reaches))]
+#[tactic(auto, unfolding(crate::specs::Quick::plain_vector, crate::specs::Quick::reaches, crate::specs::Quick::short))]
 fn vector(v: View, n: usize, len: usize) -> bool
     requires { specs.few n ≡ true }
     ensures { result ≡ specs.plain_vector v n len }
 {
-    let z = stride_of(v, n);
-    near(v.start) && short(z) && v.start + reach(n, z) < len
+    match stride_of(v, n) {
+        Some(z) => near(v.start) && short(z) && v.start + reach(n, z) < len,
+        None => false,
+    }
 }
 
 // The same of a vector that is written, each element on a place of its own.
-#[tactic(auto, using(crate::proofs::Runs::leading), unfolding(crate::specs::Quick::written_vector))]
+#[tactic(auto, using(crate::proofs::Runs::leading), unfolding(crate::specs::Quick::written_vector, crate::specs::Quick::short))]
 fn vector_target(v: View, n: usize, len: usize) -> bool
     requires { specs.few n ≡ true }
     ensures { result ≡ specs.written_vector v n len }
 {
-    vector(v, n, len) && stride_of(v, n) != 0
+    match stride_of(v, n) {
+        Some(z) => z != 0 && vector(v, n, len),
+        None => false,
+    }
 }
 
 // Whether a matrix is square.

@@ -8,12 +8,9 @@ ghost use Rattle.capi_flags.specs.Interface.{complex_of, gemm_c, gemv_c, hemm_c,
 ghost use Rattle.view.specs.Place.{view_of};
 
 use call_check::{judge2, judge3};
-use capi_flags::{
-    diag_of, is_side_uplo, is_side_uplo_trans_diag, is_trans, is_trans_trans, is_uplo,
-    is_uplo_trans, is_uplo_trans_diag, side_of, trans_of, uplo_of,
-};
-use number::Complex;
-use view::{number, view_of};
+use capi_flags::{side_uplo, side_uplo_trans_diag, trans_trans, uplo_trans, uplo_trans_diag};
+use kinds::Complex;
+use view::{Trans, UpLo, View};
 
 // y ← alpha op(A) x + beta y
 #[unsafe(no_mangle)]
@@ -44,29 +41,12 @@ pub extern "C" fn zb_zgemv(
 ) -> u8
     ensures { Returns complex (gemv_c complex trans (complex_of alphare alphaim) (lent complex a.now (view_of astart arows acols ars acs)) (lent complex x.now (view_of xstart xrows xcols xrs xcs)) (complex_of betare betaim) (lent complex y.old (view_of ystart yrows ycols yrs ycs))) result y.new }
 {
-    let va = view_of(astart, arows, acols, ars, acs);
-    let vx = view_of(xstart, xrows, xcols, xrs, xcs);
-    let vy = view_of(ystart, yrows, ycols, yrs, ycs);
-    if is_trans(trans) {
-        number(product_complex::gemv::gemv(
-            trans_of(trans),
-            Complex {
-                re: alphare,
-                im: alphaim,
-            },
-            a,
-            va,
-            x,
-            vx,
-            Complex {
-                re: betare,
-                im: betaim,
-            },
-            y,
-            vy,
-        ))
-    } else {
-        number(judge3(va, a.len() / 2, vx, x.len() / 2, vy, y.len() / 2, false))
+    let va = View::new(astart, arows, acols, ars, acs);
+    let vx = View::new(xstart, xrows, xcols, xrs, xcs);
+    let vy = View::new(ystart, yrows, ycols, yrs, ycs);
+    match Trans::try_from(trans) {
+        Ok(trans) => u8::from(product_complex::gemv::gemv(trans, Complex { re: alphare, im: alphaim }, a, va, x, vx, Complex { re: betare, im: betaim }, y, vy)),
+        Err(_) => u8::from(judge3(va, a.len() / 2, vx, x.len() / 2, vy, y.len() / 2, false)),
     }
 }
 
@@ -99,29 +79,12 @@ pub extern "C" fn zb_zhemv(
 ) -> u8
     ensures { Returns complex (hemv_c complex uplo (complex_of alphare alphaim) (lent complex a.now (view_of astart arows acols ars acs)) (lent complex x.now (view_of xstart xrows xcols xrs xcs)) (complex_of betare betaim) (lent complex y.old (view_of ystart yrows ycols yrs ycs))) result y.new }
 {
-    let va = view_of(astart, arows, acols, ars, acs);
-    let vx = view_of(xstart, xrows, xcols, xrs, xcs);
-    let vy = view_of(ystart, yrows, ycols, yrs, ycs);
-    if is_uplo(uplo) {
-        number(product_complex::hemv::hemv(
-            uplo_of(uplo),
-            Complex {
-                re: alphare,
-                im: alphaim,
-            },
-            a,
-            va,
-            x,
-            vx,
-            Complex {
-                re: betare,
-                im: betaim,
-            },
-            y,
-            vy,
-        ))
-    } else {
-        number(judge3(va, a.len() / 2, vx, x.len() / 2, vy, y.len() / 2, false))
+    let va = View::new(astart, arows, acols, ars, acs);
+    let vx = View::new(xstart, xrows, xcols, xrs, xcs);
+    let vy = View::new(ystart, yrows, ycols, yrs, ycs);
+    match UpLo::try_from(uplo) {
+        Ok(uplo) => u8::from(product_complex::hemv::hemv(uplo, Complex { re: alphare, im: alphaim }, a, va, x, vx, Complex { re: betare, im: betaim }, y, vy)),
+        Err(_) => u8::from(judge3(va, a.len() / 2, vx, x.len() / 2, vy, y.len() / 2, false)),
     }
 }
 
@@ -155,30 +118,12 @@ pub extern "C" fn zb_zgemm(
 ) -> u8
     ensures { Returns complex (gemm_c complex ta tb (complex_of alphare alphaim) (lent complex a.now (view_of astart arows acols ars acs)) (lent complex b.now (view_of bstart brows bcols brs bcs)) (complex_of betare betaim) (lent complex c.old (view_of cstart crows ccols crs ccs))) result c.new }
 {
-    let va = view_of(astart, arows, acols, ars, acs);
-    let vb = view_of(bstart, brows, bcols, brs, bcs);
-    let vc = view_of(cstart, crows, ccols, crs, ccs);
-    if is_trans_trans(ta, tb) {
-        number(product_complex::gemm::gemm(
-            trans_of(ta),
-            trans_of(tb),
-            Complex {
-                re: alphare,
-                im: alphaim,
-            },
-            a,
-            va,
-            b,
-            vb,
-            Complex {
-                re: betare,
-                im: betaim,
-            },
-            c,
-            vc,
-        ))
-    } else {
-        number(judge3(va, a.len() / 2, vb, b.len() / 2, vc, c.len() / 2, false))
+    let va = View::new(astart, arows, acols, ars, acs);
+    let vb = View::new(bstart, brows, bcols, brs, bcs);
+    let vc = View::new(cstart, crows, ccols, crs, ccs);
+    match trans_trans(ta, tb) {
+        Ok((ta, tb)) => u8::from(product_complex::gemm::gemm(ta, tb, Complex { re: alphare, im: alphaim }, a, va, b, vb, Complex { re: betare, im: betaim }, c, vc)),
+        Err(_) => u8::from(judge3(va, a.len() / 2, vb, b.len() / 2, vc, c.len() / 2, false)),
     }
 }
 
@@ -212,30 +157,12 @@ pub extern "C" fn zb_zsymm(
 ) -> u8
     ensures { Returns complex (symm_c complex side uplo (complex_of alphare alphaim) (lent complex a.now (view_of astart arows acols ars acs)) (lent complex b.now (view_of bstart brows bcols brs bcs)) (complex_of betare betaim) (lent complex c.old (view_of cstart crows ccols crs ccs))) result c.new }
 {
-    let va = view_of(astart, arows, acols, ars, acs);
-    let vb = view_of(bstart, brows, bcols, brs, bcs);
-    let vc = view_of(cstart, crows, ccols, crs, ccs);
-    if is_side_uplo(side, uplo) {
-        number(product_complex::symm::symm(
-            side_of(side),
-            uplo_of(uplo),
-            Complex {
-                re: alphare,
-                im: alphaim,
-            },
-            a,
-            va,
-            b,
-            vb,
-            Complex {
-                re: betare,
-                im: betaim,
-            },
-            c,
-            vc,
-        ))
-    } else {
-        number(judge3(va, a.len() / 2, vb, b.len() / 2, vc, c.len() / 2, false))
+    let va = View::new(astart, arows, acols, ars, acs);
+    let vb = View::new(bstart, brows, bcols, brs, bcs);
+    let vc = View::new(cstart, crows, ccols, crs, ccs);
+    match side_uplo(side, uplo) {
+        Ok((side, uplo)) => u8::from(product_complex::symm::symm(side, uplo, Complex { re: alphare, im: alphaim }, a, va, b, vb, Complex { re: betare, im: betaim }, c, vc)),
+        Err(_) => u8::from(judge3(va, a.len() / 2, vb, b.len() / 2, vc, c.len() / 2, false)),
     }
 }
 
@@ -269,30 +196,12 @@ pub extern "C" fn zb_zhemm(
 ) -> u8
     ensures { Returns complex (hemm_c complex side uplo (complex_of alphare alphaim) (lent complex a.now (view_of astart arows acols ars acs)) (lent complex b.now (view_of bstart brows bcols brs bcs)) (complex_of betare betaim) (lent complex c.old (view_of cstart crows ccols crs ccs))) result c.new }
 {
-    let va = view_of(astart, arows, acols, ars, acs);
-    let vb = view_of(bstart, brows, bcols, brs, bcs);
-    let vc = view_of(cstart, crows, ccols, crs, ccs);
-    if is_side_uplo(side, uplo) {
-        number(product_complex::hemm::hemm(
-            side_of(side),
-            uplo_of(uplo),
-            Complex {
-                re: alphare,
-                im: alphaim,
-            },
-            a,
-            va,
-            b,
-            vb,
-            Complex {
-                re: betare,
-                im: betaim,
-            },
-            c,
-            vc,
-        ))
-    } else {
-        number(judge3(va, a.len() / 2, vb, b.len() / 2, vc, c.len() / 2, false))
+    let va = View::new(astart, arows, acols, ars, acs);
+    let vb = View::new(bstart, brows, bcols, brs, bcs);
+    let vc = View::new(cstart, crows, ccols, crs, ccs);
+    match side_uplo(side, uplo) {
+        Ok((side, uplo)) => u8::from(product_complex::hemm::hemm(side, uplo, Complex { re: alphare, im: alphaim }, a, va, b, vb, Complex { re: betare, im: betaim }, c, vc)),
+        Err(_) => u8::from(judge3(va, a.len() / 2, vb, b.len() / 2, vc, c.len() / 2, false)),
     }
 }
 
@@ -320,27 +229,11 @@ pub extern "C" fn zb_zsyrk(
 ) -> u8
     ensures { Returns complex (syrk_c complex uplo trans (complex_of alphare alphaim) (lent complex a.now (view_of astart arows acols ars acs)) (complex_of betare betaim) (lent complex c.old (view_of cstart crows ccols crs ccs))) result c.new }
 {
-    let va = view_of(astart, arows, acols, ars, acs);
-    let vc = view_of(cstart, crows, ccols, crs, ccs);
-    if is_uplo_trans(uplo, trans) {
-        number(product_complex::syrk::syrk(
-            uplo_of(uplo),
-            trans_of(trans),
-            Complex {
-                re: alphare,
-                im: alphaim,
-            },
-            a,
-            va,
-            Complex {
-                re: betare,
-                im: betaim,
-            },
-            c,
-            vc,
-        ))
-    } else {
-        number(judge2(va, a.len() / 2, vc, c.len() / 2, false))
+    let va = View::new(astart, arows, acols, ars, acs);
+    let vc = View::new(cstart, crows, ccols, crs, ccs);
+    match uplo_trans(uplo, trans) {
+        Ok((uplo, trans)) => u8::from(product_complex::syrk::syrk(uplo, trans, Complex { re: alphare, im: alphaim }, a, va, Complex { re: betare, im: betaim }, c, vc)),
+        Err(_) => u8::from(judge2(va, a.len() / 2, vc, c.len() / 2, false)),
     }
 }
 
@@ -366,21 +259,11 @@ pub extern "C" fn zb_zherk(
 ) -> u8
     ensures { Returns complex (herk_c complex uplo trans alpha (lent complex a.now (view_of astart arows acols ars acs)) beta (lent complex c.old (view_of cstart crows ccols crs ccs))) result c.new }
 {
-    let va = view_of(astart, arows, acols, ars, acs);
-    let vc = view_of(cstart, crows, ccols, crs, ccs);
-    if is_uplo_trans(uplo, trans) {
-        number(product_complex::herk::herk(
-            uplo_of(uplo),
-            trans_of(trans),
-            alpha,
-            a,
-            va,
-            beta,
-            c,
-            vc,
-        ))
-    } else {
-        number(judge2(va, a.len() / 2, vc, c.len() / 2, false))
+    let va = View::new(astart, arows, acols, ars, acs);
+    let vc = View::new(cstart, crows, ccols, crs, ccs);
+    match uplo_trans(uplo, trans) {
+        Ok((uplo, trans)) => u8::from(product_complex::herk::herk(uplo, trans, alpha, a, va, beta, c, vc)),
+        Err(_) => u8::from(judge2(va, a.len() / 2, vc, c.len() / 2, false)),
     }
 }
 
@@ -404,12 +287,11 @@ pub extern "C" fn zb_zher(
 ) -> u8
     ensures { Returns complex (her_c complex uplo alpha (lent complex x.now (view_of xstart xrows xcols xrs xcs)) (lent complex a.old (view_of astart arows acols ars acs))) result a.new }
 {
-    let vx = view_of(xstart, xrows, xcols, xrs, xcs);
-    let va = view_of(astart, arows, acols, ars, acs);
-    if is_uplo(uplo) {
-        number(rank_complex::her::her(uplo_of(uplo), alpha, x, vx, a, va))
-    } else {
-        number(judge2(vx, x.len() / 2, va, a.len() / 2, false))
+    let vx = View::new(xstart, xrows, xcols, xrs, xcs);
+    let va = View::new(astart, arows, acols, ars, acs);
+    match UpLo::try_from(uplo) {
+        Ok(uplo) => u8::from(rank::her::her::<Complex>(uplo, alpha, x, vx, a, va)),
+        Err(_) => u8::from(judge2(vx, x.len() / 2, va, a.len() / 2, false)),
     }
 }
 
@@ -440,25 +322,12 @@ pub extern "C" fn zb_zher2(
 ) -> u8
     ensures { Returns complex (her2_c complex uplo (complex_of alphare alphaim) (lent complex x.now (view_of xstart xrows xcols xrs xcs)) (lent complex y.now (view_of ystart yrows ycols yrs ycs)) (lent complex a.old (view_of astart arows acols ars acs))) result a.new }
 {
-    let vx = view_of(xstart, xrows, xcols, xrs, xcs);
-    let vy = view_of(ystart, yrows, ycols, yrs, ycs);
-    let va = view_of(astart, arows, acols, ars, acs);
-    if is_uplo(uplo) {
-        number(rank_complex::her2::her2(
-            uplo_of(uplo),
-            Complex {
-                re: alphare,
-                im: alphaim,
-            },
-            x,
-            vx,
-            y,
-            vy,
-            a,
-            va,
-        ))
-    } else {
-        number(judge3(vx, x.len() / 2, vy, y.len() / 2, va, a.len() / 2, false))
+    let vx = View::new(xstart, xrows, xcols, xrs, xcs);
+    let vy = View::new(ystart, yrows, ycols, yrs, ycs);
+    let va = View::new(astart, arows, acols, ars, acs);
+    match UpLo::try_from(uplo) {
+        Ok(uplo) => u8::from(rank::her2::her2::<Complex>(uplo, Complex { re: alphare, im: alphaim }, x, vx, y, vy, a, va)),
+        Err(_) => u8::from(judge3(vx, x.len() / 2, vy, y.len() / 2, va, a.len() / 2, false)),
     }
 }
 
@@ -492,30 +361,12 @@ pub extern "C" fn zb_zsyr2k(
 ) -> u8
     ensures { Returns complex (syr2k_c complex uplo trans (complex_of alphare alphaim) (lent complex a.now (view_of astart arows acols ars acs)) (lent complex b.now (view_of bstart brows bcols brs bcs)) (complex_of betare betaim) (lent complex c.old (view_of cstart crows ccols crs ccs))) result c.new }
 {
-    let va = view_of(astart, arows, acols, ars, acs);
-    let vb = view_of(bstart, brows, bcols, brs, bcs);
-    let vc = view_of(cstart, crows, ccols, crs, ccs);
-    if is_uplo_trans(uplo, trans) {
-        number(rank_complex::syr2k::syr2k(
-            uplo_of(uplo),
-            trans_of(trans),
-            Complex {
-                re: alphare,
-                im: alphaim,
-            },
-            a,
-            va,
-            b,
-            vb,
-            Complex {
-                re: betare,
-                im: betaim,
-            },
-            c,
-            vc,
-        ))
-    } else {
-        number(judge3(va, a.len() / 2, vb, b.len() / 2, vc, c.len() / 2, false))
+    let va = View::new(astart, arows, acols, ars, acs);
+    let vb = View::new(bstart, brows, bcols, brs, bcs);
+    let vc = View::new(cstart, crows, ccols, crs, ccs);
+    match uplo_trans(uplo, trans) {
+        Ok((uplo, trans)) => u8::from(rank::syr2k::syr2k::<Complex>(uplo, trans, Complex { re: alphare, im: alphaim }, a, va, b, vb, Complex { re: betare, im: betaim }, c, vc)),
+        Err(_) => u8::from(judge3(va, a.len() / 2, vb, b.len() / 2, vc, c.len() / 2, false)),
     }
 }
 
@@ -548,27 +399,12 @@ pub extern "C" fn zb_zher2k(
 ) -> u8
     ensures { Returns complex (her2k_c complex uplo trans (complex_of alphare alphaim) (lent complex a.now (view_of astart arows acols ars acs)) (lent complex b.now (view_of bstart brows bcols brs bcs)) beta (lent complex c.old (view_of cstart crows ccols crs ccs))) result c.new }
 {
-    let va = view_of(astart, arows, acols, ars, acs);
-    let vb = view_of(bstart, brows, bcols, brs, bcs);
-    let vc = view_of(cstart, crows, ccols, crs, ccs);
-    if is_uplo_trans(uplo, trans) {
-        number(rank_complex::her2k::her2k(
-            uplo_of(uplo),
-            trans_of(trans),
-            Complex {
-                re: alphare,
-                im: alphaim,
-            },
-            a,
-            va,
-            b,
-            vb,
-            beta,
-            c,
-            vc,
-        ))
-    } else {
-        number(judge3(va, a.len() / 2, vb, b.len() / 2, vc, c.len() / 2, false))
+    let va = View::new(astart, arows, acols, ars, acs);
+    let vb = View::new(bstart, brows, bcols, brs, bcs);
+    let vc = View::new(cstart, crows, ccols, crs, ccs);
+    match uplo_trans(uplo, trans) {
+        Ok((uplo, trans)) => u8::from(rank::her2k::her2k::<Complex>(uplo, trans, Complex { re: alphare, im: alphaim }, a, va, b, vb, beta, c, vc)),
+        Err(_) => u8::from(judge3(va, a.len() / 2, vb, b.len() / 2, vc, c.len() / 2, false)),
     }
 }
 
@@ -593,20 +429,11 @@ pub extern "C" fn zb_ztrmv(
 ) -> u8
     ensures { Returns complex (trmv_c complex uplo trans diag (lent complex a.now (view_of astart arows acols ars acs)) (lent complex x.old (view_of xstart xrows xcols xrs xcs))) result x.new }
 {
-    let va = view_of(astart, arows, acols, ars, acs);
-    let vx = view_of(xstart, xrows, xcols, xrs, xcs);
-    if is_uplo_trans_diag(uplo, trans, diag) {
-        number(triangle_complex::trmv::trmv(
-            uplo_of(uplo),
-            trans_of(trans),
-            diag_of(diag),
-            a,
-            va,
-            x,
-            vx,
-        ))
-    } else {
-        number(judge2(va, a.len() / 2, vx, x.len() / 2, false))
+    let va = View::new(astart, arows, acols, ars, acs);
+    let vx = View::new(xstart, xrows, xcols, xrs, xcs);
+    match uplo_trans_diag(uplo, trans, diag) {
+        Ok((uplo, trans, diag)) => u8::from(triangle_complex::trmv::trmv(uplo, trans, diag, a, va, x, vx)),
+        Err(_) => u8::from(judge2(va, a.len() / 2, vx, x.len() / 2, false)),
     }
 }
 
@@ -631,20 +458,11 @@ pub extern "C" fn zb_ztrsv(
 ) -> u8
     ensures { Returns complex (trsv_c complex uplo trans diag (lent complex a.now (view_of astart arows acols ars acs)) (lent complex x.old (view_of xstart xrows xcols xrs xcs))) result x.new }
 {
-    let va = view_of(astart, arows, acols, ars, acs);
-    let vx = view_of(xstart, xrows, xcols, xrs, xcs);
-    if is_uplo_trans_diag(uplo, trans, diag) {
-        number(triangle_complex::trsv::trsv(
-            uplo_of(uplo),
-            trans_of(trans),
-            diag_of(diag),
-            a,
-            va,
-            x,
-            vx,
-        ))
-    } else {
-        number(judge2(va, a.len() / 2, vx, x.len() / 2, false))
+    let va = View::new(astart, arows, acols, ars, acs);
+    let vx = View::new(xstart, xrows, xcols, xrs, xcs);
+    match uplo_trans_diag(uplo, trans, diag) {
+        Ok((uplo, trans, diag)) => u8::from(triangle_complex::trsv::trsv(uplo, trans, diag, a, va, x, vx)),
+        Err(_) => u8::from(judge2(va, a.len() / 2, vx, x.len() / 2, false)),
     }
 }
 
@@ -672,25 +490,11 @@ pub extern "C" fn zb_ztrmm(
 ) -> u8
     ensures { Returns complex (trmm_c complex side uplo trans diag (complex_of alphare alphaim) (lent complex a.now (view_of astart arows acols ars acs)) (lent complex b.old (view_of bstart brows bcols brs bcs))) result b.new }
 {
-    let va = view_of(astart, arows, acols, ars, acs);
-    let vb = view_of(bstart, brows, bcols, brs, bcs);
-    if is_side_uplo_trans_diag(side, uplo, trans, diag) {
-        number(triangle_complex::trmm::trmm(
-            side_of(side),
-            uplo_of(uplo),
-            trans_of(trans),
-            diag_of(diag),
-            Complex {
-                re: alphare,
-                im: alphaim,
-            },
-            a,
-            va,
-            b,
-            vb,
-        ))
-    } else {
-        number(judge2(va, a.len() / 2, vb, b.len() / 2, false))
+    let va = View::new(astart, arows, acols, ars, acs);
+    let vb = View::new(bstart, brows, bcols, brs, bcs);
+    match side_uplo_trans_diag(side, uplo, trans, diag) {
+        Ok((side, uplo, trans, diag)) => u8::from(triangle_complex::trmm::trmm(side, uplo, trans, diag, Complex { re: alphare, im: alphaim }, a, va, b, vb)),
+        Err(_) => u8::from(judge2(va, a.len() / 2, vb, b.len() / 2, false)),
     }
 }
 
@@ -718,24 +522,10 @@ pub extern "C" fn zb_ztrsm(
 ) -> u8
     ensures { Returns complex (trsm_c complex side uplo trans diag (complex_of alphare alphaim) (lent complex a.now (view_of astart arows acols ars acs)) (lent complex b.old (view_of bstart brows bcols brs bcs))) result b.new }
 {
-    let va = view_of(astart, arows, acols, ars, acs);
-    let vb = view_of(bstart, brows, bcols, brs, bcs);
-    if is_side_uplo_trans_diag(side, uplo, trans, diag) {
-        number(triangle_complex::trsm::trsm(
-            side_of(side),
-            uplo_of(uplo),
-            trans_of(trans),
-            diag_of(diag),
-            Complex {
-                re: alphare,
-                im: alphaim,
-            },
-            a,
-            va,
-            b,
-            vb,
-        ))
-    } else {
-        number(judge2(va, a.len() / 2, vb, b.len() / 2, false))
+    let va = View::new(astart, arows, acols, ars, acs);
+    let vb = View::new(bstart, brows, bcols, brs, bcs);
+    match side_uplo_trans_diag(side, uplo, trans, diag) {
+        Ok((side, uplo, trans, diag)) => u8::from(triangle_complex::trsm::trsm(side, uplo, trans, diag, Complex { re: alphare, im: alphaim }, a, va, b, vb)),
+        Err(_) => u8::from(judge2(va, a.len() / 2, vb, b.len() / 2, false)),
     }
 }

@@ -1,16 +1,10 @@
 -- A call through the C interface: flags and views come as numbers, and the answer's number goes back.
-use Rattle.std.specs.Prelude.{ℕ, zero, suc, Bool, true, false, ◌&&◌, List, [], ◌∷◌, ◌≡◌, ltb, Float}
+use Rattle.std.specs.Prelude.{ℕ, Bool, true, false, ◌&&◌, List, [], ◌∷◌, ◌≡◌, Float, Result, MatchResult}
 use Rattle.number.specs.Kind.{Kind}
 use Rattle.number.specs.declared.Complex.{Complex}
 use Rattle.view.specs.declared.Answer.{Answer}
-use Rattle.view.specs.declared.Diag.{Diag}
-use Rattle.view.specs.declared.Diag.TheVariants.{NonUnit, Unit}
-use Rattle.view.specs.declared.Side.{Side}
-use Rattle.view.specs.declared.Side.TheVariants.{Left, Right}
-use Rattle.view.specs.declared.Trans.{Trans}
-use Rattle.view.specs.declared.Trans.TheVariants.{NoTrans, Trans as Transposed, ConjTrans}
-use Rattle.view.specs.declared.UpLo.{UpLo}
-use Rattle.view.specs.declared.UpLo.TheVariants.{Upper, Lower}
+use Rattle.view.specs.declared.UnknownFlag.{UnknownFlag}
+use Rattle.view.specs.Flags.{trans_in_range, trans_of, up_lo_in_range, up_lo_of, side_in_range, side_of, diag_in_range, diag_of}
 use Rattle.view.specs.Judge.{arg, judge}
 use Rattle.slabs.specs.Elem.{Lent}
 use Rattle.blas.specs.Outcome.{Outcome, outcome}
@@ -32,34 +26,9 @@ use Rattle.blas.specs.Trsm.{trsm}
 
 -- ---- flags
 
-abbrev pub trans_in_range : ℕ → Bool
-trans_in_range n = ltb n 3
-
-unfoldable pub trans_of : ℕ → Trans
-trans_of zero = NoTrans
-trans_of (suc zero) = Transposed
-trans_of (suc (suc n)) = ConjTrans
-
-abbrev pub up_lo_in_range : ℕ → Bool
-up_lo_in_range n = ltb n 2
-
-unfoldable pub up_lo_of : ℕ → UpLo
-up_lo_of zero = Upper
-up_lo_of (suc n) = Lower
-
-abbrev pub side_in_range : ℕ → Bool
-side_in_range n = ltb n 2
-
-unfoldable pub side_of : ℕ → Side
-side_of zero = Left
-side_of (suc n) = Right
-
-abbrev pub diag_in_range : ℕ → Bool
-diag_in_range n = ltb n 2
-
-unfoldable pub diag_of : ℕ → Diag
-diag_of zero = NonUnit
-diag_of (suc n) = Unit
+-- where every flag is in its range the flags, else an error
+abbrev pub Decoded : {F : Type 0} → Bool → F → Result F UnknownFlag → Type 0
+Decoded valid flags r = MatchResult r (λ f. (valid ≡ true) × (f ≡ flags)) (λ e. valid ≡ false)
 
 -- ---- scalars: a complex number comes as its two parts
 

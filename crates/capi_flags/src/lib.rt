@@ -1,107 +1,47 @@
-// Flags from the numbers that C passes.
+// Flags from the numbers that C passes, several at once: all of them, or the first that is none. specs/ has a call through the C interface
+// as a definition, proofs/ what each C function has to show.
 
 #![tactic(auto)]
 
-ghost use Rattle.std.specs.Prelude.{◌≡◌, ◌&&◌};
-ghost use Rattle.capi_flags.specs.Interface.{trans_in_range, up_lo_in_range, side_in_range, diag_in_range, trans_of, up_lo_of, side_of, diag_of};
+ghost use Rattle.std.specs.Prelude.{◌&&◌};
+ghost use Rattle.view.specs.Flags.{trans_in_range, trans_of, up_lo_in_range, up_lo_of, side_in_range, side_of, diag_in_range, diag_of};
+ghost use Rattle.capi_flags.specs.Interface.{Decoded};
 
-use view::{Diag, Side, Trans, UpLo};
+use view::{Diag, Side, Trans, UnknownFlag, UpLo};
 
-pub fn is_trans(t: u8) -> bool
-    ensures { result ≡ trans_in_range t }
+pub fn trans_trans(s: u8, t: u8) -> Result<(Trans, Trans), UnknownFlag>
+    ensures { Decoded (trans_in_range s && trans_in_range t) (trans_of s, trans_of t) result }
 {
-    t < 3
+    Ok((Trans::try_from(s)?, Trans::try_from(t)?))
 }
 
-pub fn is_uplo(u: u8) -> bool
-    ensures { result ≡ up_lo_in_range u }
+pub fn side_uplo(s: u8, u: u8) -> Result<(Side, UpLo), UnknownFlag>
+    ensures { Decoded (side_in_range s && up_lo_in_range u) (side_of s, up_lo_of u) result }
 {
-    u < 2
+    Ok((Side::try_from(s)?, UpLo::try_from(u)?))
 }
 
-fn is_side(s: u8) -> bool
-    ensures { result ≡ side_in_range s }
+pub fn uplo_trans(u: u8, t: u8) -> Result<(UpLo, Trans), UnknownFlag>
+    ensures { Decoded (up_lo_in_range u && trans_in_range t) (up_lo_of u, trans_of t) result }
 {
-    s < 2
+    Ok((UpLo::try_from(u)?, Trans::try_from(t)?))
 }
 
-fn is_diag(d: u8) -> bool
-    ensures { result ≡ diag_in_range d }
+pub fn uplo_trans_diag(u: u8, t: u8, d: u8) -> Result<(UpLo, Trans, Diag), UnknownFlag>
+    ensures { Decoded (up_lo_in_range u && trans_in_range t && diag_in_range d) (up_lo_of u, trans_of t, diag_of d) result }
 {
-    d < 2
+    Ok((UpLo::try_from(u)?, Trans::try_from(t)?, Diag::try_from(d)?))
 }
 
-pub fn is_trans_trans(s: u8, t: u8) -> bool
-    ensures { result ≡ trans_in_range s && trans_in_range t }
+pub fn side_uplo_trans_diag(
+    s: u8,
+    u: u8,
+    t: u8,
+    d: u8,
+) -> Result<(Side, UpLo, Trans, Diag), UnknownFlag>
+    ensures { Decoded (side_in_range s && (up_lo_in_range u && trans_in_range t && diag_in_range d)) (side_of s, up_lo_of u, trans_of t, diag_of d) result }
 {
-    if is_trans(s) { is_trans(t) } else { false }
-}
-
-pub fn is_side_uplo(s: u8, u: u8) -> bool
-    ensures { result ≡ side_in_range s && up_lo_in_range u }
-{
-    if is_side(s) { is_uplo(u) } else { false }
-}
-
-pub fn is_uplo_trans(u: u8, t: u8) -> bool
-    ensures { result ≡ up_lo_in_range u && trans_in_range t }
-{
-    if is_uplo(u) { is_trans(t) } else { false }
-}
-
-pub fn is_uplo_trans_diag(u: u8, t: u8, d: u8) -> bool
-    ensures { result ≡ up_lo_in_range u && trans_in_range t && diag_in_range d }
-{
-    if is_uplo_trans(u, t) {
-        is_diag(d)
-    } else {
-        false
-    }
-}
-
-pub fn is_side_uplo_trans_diag(s: u8, u: u8, t: u8, d: u8) -> bool
-    ensures { result ≡ side_in_range s && (up_lo_in_range u && trans_in_range t && diag_in_range d) }
-{
-    if is_side(s) {
-        is_uplo_trans_diag(u, t, d)
-    } else {
-        false
-    }
-}
-
-pub fn trans_of(t: u8) -> Trans
-    ensures { result ≡ trans_of t }
-{
-    match t {
-        0 => Trans::NoTrans,
-        1 => Trans::Trans,
-        _ => Trans::ConjTrans,
-    }
-}
-
-pub fn uplo_of(u: u8) -> UpLo
-    ensures { result ≡ up_lo_of u }
-{
-    match u {
-        0 => UpLo::Upper,
-        _ => UpLo::Lower,
-    }
-}
-
-pub fn side_of(s: u8) -> Side
-    ensures { result ≡ side_of s }
-{
-    match s {
-        0 => Side::Left,
-        _ => Side::Right,
-    }
-}
-
-pub fn diag_of(d: u8) -> Diag
-    ensures { result ≡ diag_of d }
-{
-    match d {
-        0 => Diag::NonUnit,
-        _ => Diag::Unit,
-    }
+    let side = Side::try_from(s)?;
+    let (uplo, trans, diag) = uplo_trans_diag(u, t, d)?;
+    Ok((side, uplo, trans, diag))
 }

@@ -8,12 +8,8 @@ ghost use Rattle.capi_flags.specs.Interface.{gemm_c, gemv_c, hemm_c, hemv_c, her
 ghost use Rattle.view.specs.Place.{view_of};
 
 use call_check::{judge2, judge3};
-use capi_flags::{
-    diag_of, is_side_uplo, is_side_uplo_trans_diag, is_trans, is_trans_trans, is_uplo,
-    is_uplo_trans, is_uplo_trans_diag, side_of, trans_of, uplo_of,
-};
-use number::Real32;
-use view::{number, view_of};
+use capi_flags::{side_uplo, side_uplo_trans_diag, trans_trans, uplo_trans, uplo_trans_diag};
+use view::{Trans, UpLo, View};
 
 // y ← alpha op(A) x + beta y
 #[unsafe(no_mangle)]
@@ -42,23 +38,12 @@ pub extern "C" fn zb_sgemv(
 ) -> u8
     ensures { Returns real32 (gemv_c real32 trans alpha (lent real32 a.now (view_of astart arows acols ars acs)) (lent real32 x.now (view_of xstart xrows xcols xrs xcs)) beta (lent real32 y.old (view_of ystart yrows ycols yrs ycs))) result y.new }
 {
-    let va = view_of(astart, arows, acols, ars, acs);
-    let vx = view_of(xstart, xrows, xcols, xrs, xcs);
-    let vy = view_of(ystart, yrows, ycols, yrs, ycs);
-    if is_trans(trans) {
-        number(product_real32::gemv::gemv(
-            trans_of(trans),
-            Real32(alpha),
-            a,
-            va,
-            x,
-            vx,
-            Real32(beta),
-            y,
-            vy,
-        ))
-    } else {
-        number(judge3(va, a.len(), vx, x.len(), vy, y.len(), false))
+    let va = View::new(astart, arows, acols, ars, acs);
+    let vx = View::new(xstart, xrows, xcols, xrs, xcs);
+    let vy = View::new(ystart, yrows, ycols, yrs, ycs);
+    match Trans::try_from(trans) {
+        Ok(trans) => u8::from(product_real::gemv::gemv::<f32>(trans, alpha, a, va, x, vx, beta, y, vy)),
+        Err(_) => u8::from(judge3(va, a.len(), vx, x.len(), vy, y.len(), false)),
     }
 }
 
@@ -89,23 +74,12 @@ pub extern "C" fn zb_shemv(
 ) -> u8
     ensures { Returns real32 (hemv_c real32 uplo alpha (lent real32 a.now (view_of astart arows acols ars acs)) (lent real32 x.now (view_of xstart xrows xcols xrs xcs)) beta (lent real32 y.old (view_of ystart yrows ycols yrs ycs))) result y.new }
 {
-    let va = view_of(astart, arows, acols, ars, acs);
-    let vx = view_of(xstart, xrows, xcols, xrs, xcs);
-    let vy = view_of(ystart, yrows, ycols, yrs, ycs);
-    if is_uplo(uplo) {
-        number(product_real32::hemv::hemv(
-            uplo_of(uplo),
-            Real32(alpha),
-            a,
-            va,
-            x,
-            vx,
-            Real32(beta),
-            y,
-            vy,
-        ))
-    } else {
-        number(judge3(va, a.len(), vx, x.len(), vy, y.len(), false))
+    let va = View::new(astart, arows, acols, ars, acs);
+    let vx = View::new(xstart, xrows, xcols, xrs, xcs);
+    let vy = View::new(ystart, yrows, ycols, yrs, ycs);
+    match UpLo::try_from(uplo) {
+        Ok(uplo) => u8::from(product_real::hemv::hemv::<f32>(uplo, alpha, a, va, x, vx, beta, y, vy)),
+        Err(_) => u8::from(judge3(va, a.len(), vx, x.len(), vy, y.len(), false)),
     }
 }
 
@@ -137,24 +111,12 @@ pub extern "C" fn zb_sgemm(
 ) -> u8
     ensures { Returns real32 (gemm_c real32 ta tb alpha (lent real32 a.now (view_of astart arows acols ars acs)) (lent real32 b.now (view_of bstart brows bcols brs bcs)) beta (lent real32 c.old (view_of cstart crows ccols crs ccs))) result c.new }
 {
-    let va = view_of(astart, arows, acols, ars, acs);
-    let vb = view_of(bstart, brows, bcols, brs, bcs);
-    let vc = view_of(cstart, crows, ccols, crs, ccs);
-    if is_trans_trans(ta, tb) {
-        number(product_real32::gemm::gemm(
-            trans_of(ta),
-            trans_of(tb),
-            Real32(alpha),
-            a,
-            va,
-            b,
-            vb,
-            Real32(beta),
-            c,
-            vc,
-        ))
-    } else {
-        number(judge3(va, a.len(), vb, b.len(), vc, c.len(), false))
+    let va = View::new(astart, arows, acols, ars, acs);
+    let vb = View::new(bstart, brows, bcols, brs, bcs);
+    let vc = View::new(cstart, crows, ccols, crs, ccs);
+    match trans_trans(ta, tb) {
+        Ok((ta, tb)) => u8::from(product_real::gemm::gemm::<f32>(ta, tb, alpha, a, va, b, vb, beta, c, vc)),
+        Err(_) => u8::from(judge3(va, a.len(), vb, b.len(), vc, c.len(), false)),
     }
 }
 
@@ -186,24 +148,12 @@ pub extern "C" fn zb_ssymm(
 ) -> u8
     ensures { Returns real32 (symm_c real32 side uplo alpha (lent real32 a.now (view_of astart arows acols ars acs)) (lent real32 b.now (view_of bstart brows bcols brs bcs)) beta (lent real32 c.old (view_of cstart crows ccols crs ccs))) result c.new }
 {
-    let va = view_of(astart, arows, acols, ars, acs);
-    let vb = view_of(bstart, brows, bcols, brs, bcs);
-    let vc = view_of(cstart, crows, ccols, crs, ccs);
-    if is_side_uplo(side, uplo) {
-        number(product_real32::symm::symm(
-            side_of(side),
-            uplo_of(uplo),
-            Real32(alpha),
-            a,
-            va,
-            b,
-            vb,
-            Real32(beta),
-            c,
-            vc,
-        ))
-    } else {
-        number(judge3(va, a.len(), vb, b.len(), vc, c.len(), false))
+    let va = View::new(astart, arows, acols, ars, acs);
+    let vb = View::new(bstart, brows, bcols, brs, bcs);
+    let vc = View::new(cstart, crows, ccols, crs, ccs);
+    match side_uplo(side, uplo) {
+        Ok((side, uplo)) => u8::from(product_real::symm::symm::<f32>(side, uplo, alpha, a, va, b, vb, beta, c, vc)),
+        Err(_) => u8::from(judge3(va, a.len(), vb, b.len(), vc, c.len(), false)),
     }
 }
 
@@ -235,24 +185,12 @@ pub extern "C" fn zb_shemm(
 ) -> u8
     ensures { Returns real32 (hemm_c real32 side uplo alpha (lent real32 a.now (view_of astart arows acols ars acs)) (lent real32 b.now (view_of bstart brows bcols brs bcs)) beta (lent real32 c.old (view_of cstart crows ccols crs ccs))) result c.new }
 {
-    let va = view_of(astart, arows, acols, ars, acs);
-    let vb = view_of(bstart, brows, bcols, brs, bcs);
-    let vc = view_of(cstart, crows, ccols, crs, ccs);
-    if is_side_uplo(side, uplo) {
-        number(product_real32::hemm::hemm(
-            side_of(side),
-            uplo_of(uplo),
-            Real32(alpha),
-            a,
-            va,
-            b,
-            vb,
-            Real32(beta),
-            c,
-            vc,
-        ))
-    } else {
-        number(judge3(va, a.len(), vb, b.len(), vc, c.len(), false))
+    let va = View::new(astart, arows, acols, ars, acs);
+    let vb = View::new(bstart, brows, bcols, brs, bcs);
+    let vc = View::new(cstart, crows, ccols, crs, ccs);
+    match side_uplo(side, uplo) {
+        Ok((side, uplo)) => u8::from(product_real::hemm::hemm::<f32>(side, uplo, alpha, a, va, b, vb, beta, c, vc)),
+        Err(_) => u8::from(judge3(va, a.len(), vb, b.len(), vc, c.len(), false)),
     }
 }
 
@@ -278,21 +216,11 @@ pub extern "C" fn zb_ssyrk(
 ) -> u8
     ensures { Returns real32 (syrk_c real32 uplo trans alpha (lent real32 a.now (view_of astart arows acols ars acs)) beta (lent real32 c.old (view_of cstart crows ccols crs ccs))) result c.new }
 {
-    let va = view_of(astart, arows, acols, ars, acs);
-    let vc = view_of(cstart, crows, ccols, crs, ccs);
-    if is_uplo_trans(uplo, trans) {
-        number(product_real32::syrk::syrk(
-            uplo_of(uplo),
-            trans_of(trans),
-            Real32(alpha),
-            a,
-            va,
-            Real32(beta),
-            c,
-            vc,
-        ))
-    } else {
-        number(judge2(va, a.len(), vc, c.len(), false))
+    let va = View::new(astart, arows, acols, ars, acs);
+    let vc = View::new(cstart, crows, ccols, crs, ccs);
+    match uplo_trans(uplo, trans) {
+        Ok((uplo, trans)) => u8::from(product_real::syrk::syrk::<f32>(uplo, trans, alpha, a, va, beta, c, vc)),
+        Err(_) => u8::from(judge2(va, a.len(), vc, c.len(), false)),
     }
 }
 
@@ -318,21 +246,11 @@ pub extern "C" fn zb_sherk(
 ) -> u8
     ensures { Returns real32 (herk_c real32 uplo trans alpha (lent real32 a.now (view_of astart arows acols ars acs)) beta (lent real32 c.old (view_of cstart crows ccols crs ccs))) result c.new }
 {
-    let va = view_of(astart, arows, acols, ars, acs);
-    let vc = view_of(cstart, crows, ccols, crs, ccs);
-    if is_uplo_trans(uplo, trans) {
-        number(product_real32::herk::herk(
-            uplo_of(uplo),
-            trans_of(trans),
-            alpha,
-            a,
-            va,
-            beta,
-            c,
-            vc,
-        ))
-    } else {
-        number(judge2(va, a.len(), vc, c.len(), false))
+    let va = View::new(astart, arows, acols, ars, acs);
+    let vc = View::new(cstart, crows, ccols, crs, ccs);
+    match uplo_trans(uplo, trans) {
+        Ok((uplo, trans)) => u8::from(product_real::herk::herk::<f32>(uplo, trans, alpha, a, va, beta, c, vc)),
+        Err(_) => u8::from(judge2(va, a.len(), vc, c.len(), false)),
     }
 }
 
@@ -356,12 +274,11 @@ pub extern "C" fn zb_sher(
 ) -> u8
     ensures { Returns real32 (her_c real32 uplo alpha (lent real32 x.now (view_of xstart xrows xcols xrs xcs)) (lent real32 a.old (view_of astart arows acols ars acs))) result a.new }
 {
-    let vx = view_of(xstart, xrows, xcols, xrs, xcs);
-    let va = view_of(astart, arows, acols, ars, acs);
-    if is_uplo(uplo) {
-        number(rank_real32::her::her(uplo_of(uplo), alpha, x, vx, a, va))
-    } else {
-        number(judge2(vx, x.len(), va, a.len(), false))
+    let vx = View::new(xstart, xrows, xcols, xrs, xcs);
+    let va = View::new(astart, arows, acols, ars, acs);
+    match UpLo::try_from(uplo) {
+        Ok(uplo) => u8::from(rank::her::her::<f32>(uplo, alpha, x, vx, a, va)),
+        Err(_) => u8::from(judge2(vx, x.len(), va, a.len(), false)),
     }
 }
 
@@ -391,13 +308,12 @@ pub extern "C" fn zb_sher2(
 ) -> u8
     ensures { Returns real32 (her2_c real32 uplo alpha (lent real32 x.now (view_of xstart xrows xcols xrs xcs)) (lent real32 y.now (view_of ystart yrows ycols yrs ycs)) (lent real32 a.old (view_of astart arows acols ars acs))) result a.new }
 {
-    let vx = view_of(xstart, xrows, xcols, xrs, xcs);
-    let vy = view_of(ystart, yrows, ycols, yrs, ycs);
-    let va = view_of(astart, arows, acols, ars, acs);
-    if is_uplo(uplo) {
-        number(rank_real32::her2::her2(uplo_of(uplo), Real32(alpha), x, vx, y, vy, a, va))
-    } else {
-        number(judge3(vx, x.len(), vy, y.len(), va, a.len(), false))
+    let vx = View::new(xstart, xrows, xcols, xrs, xcs);
+    let vy = View::new(ystart, yrows, ycols, yrs, ycs);
+    let va = View::new(astart, arows, acols, ars, acs);
+    match UpLo::try_from(uplo) {
+        Ok(uplo) => u8::from(rank::her2::her2::<f32>(uplo, alpha, x, vx, y, vy, a, va)),
+        Err(_) => u8::from(judge3(vx, x.len(), vy, y.len(), va, a.len(), false)),
     }
 }
 
@@ -429,24 +345,12 @@ pub extern "C" fn zb_ssyr2k(
 ) -> u8
     ensures { Returns real32 (syr2k_c real32 uplo trans alpha (lent real32 a.now (view_of astart arows acols ars acs)) (lent real32 b.now (view_of bstart brows bcols brs bcs)) beta (lent real32 c.old (view_of cstart crows ccols crs ccs))) result c.new }
 {
-    let va = view_of(astart, arows, acols, ars, acs);
-    let vb = view_of(bstart, brows, bcols, brs, bcs);
-    let vc = view_of(cstart, crows, ccols, crs, ccs);
-    if is_uplo_trans(uplo, trans) {
-        number(rank_real32::syr2k::syr2k(
-            uplo_of(uplo),
-            trans_of(trans),
-            Real32(alpha),
-            a,
-            va,
-            b,
-            vb,
-            Real32(beta),
-            c,
-            vc,
-        ))
-    } else {
-        number(judge3(va, a.len(), vb, b.len(), vc, c.len(), false))
+    let va = View::new(astart, arows, acols, ars, acs);
+    let vb = View::new(bstart, brows, bcols, brs, bcs);
+    let vc = View::new(cstart, crows, ccols, crs, ccs);
+    match uplo_trans(uplo, trans) {
+        Ok((uplo, trans)) => u8::from(rank::syr2k::syr2k::<f32>(uplo, trans, alpha, a, va, b, vb, beta, c, vc)),
+        Err(_) => u8::from(judge3(va, a.len(), vb, b.len(), vc, c.len(), false)),
     }
 }
 
@@ -478,24 +382,12 @@ pub extern "C" fn zb_sher2k(
 ) -> u8
     ensures { Returns real32 (her2k_c real32 uplo trans alpha (lent real32 a.now (view_of astart arows acols ars acs)) (lent real32 b.now (view_of bstart brows bcols brs bcs)) beta (lent real32 c.old (view_of cstart crows ccols crs ccs))) result c.new }
 {
-    let va = view_of(astart, arows, acols, ars, acs);
-    let vb = view_of(bstart, brows, bcols, brs, bcs);
-    let vc = view_of(cstart, crows, ccols, crs, ccs);
-    if is_uplo_trans(uplo, trans) {
-        number(rank_real32::her2k::her2k(
-            uplo_of(uplo),
-            trans_of(trans),
-            Real32(alpha),
-            a,
-            va,
-            b,
-            vb,
-            beta,
-            c,
-            vc,
-        ))
-    } else {
-        number(judge3(va, a.len(), vb, b.len(), vc, c.len(), false))
+    let va = View::new(astart, arows, acols, ars, acs);
+    let vb = View::new(bstart, brows, bcols, brs, bcs);
+    let vc = View::new(cstart, crows, ccols, crs, ccs);
+    match uplo_trans(uplo, trans) {
+        Ok((uplo, trans)) => u8::from(rank::her2k::her2k::<f32>(uplo, trans, alpha, a, va, b, vb, beta, c, vc)),
+        Err(_) => u8::from(judge3(va, a.len(), vb, b.len(), vc, c.len(), false)),
     }
 }
 
@@ -520,20 +412,11 @@ pub extern "C" fn zb_strmv(
 ) -> u8
     ensures { Returns real32 (trmv_c real32 uplo trans diag (lent real32 a.now (view_of astart arows acols ars acs)) (lent real32 x.old (view_of xstart xrows xcols xrs xcs))) result x.new }
 {
-    let va = view_of(astart, arows, acols, ars, acs);
-    let vx = view_of(xstart, xrows, xcols, xrs, xcs);
-    if is_uplo_trans_diag(uplo, trans, diag) {
-        number(triangle_real32::trmv::trmv(
-            uplo_of(uplo),
-            trans_of(trans),
-            diag_of(diag),
-            a,
-            va,
-            x,
-            vx,
-        ))
-    } else {
-        number(judge2(va, a.len(), vx, x.len(), false))
+    let va = View::new(astart, arows, acols, ars, acs);
+    let vx = View::new(xstart, xrows, xcols, xrs, xcs);
+    match uplo_trans_diag(uplo, trans, diag) {
+        Ok((uplo, trans, diag)) => u8::from(triangle_real::trmv::trmv::<f32>(uplo, trans, diag, a, va, x, vx)),
+        Err(_) => u8::from(judge2(va, a.len(), vx, x.len(), false)),
     }
 }
 
@@ -558,20 +441,11 @@ pub extern "C" fn zb_strsv(
 ) -> u8
     ensures { Returns real32 (trsv_c real32 uplo trans diag (lent real32 a.now (view_of astart arows acols ars acs)) (lent real32 x.old (view_of xstart xrows xcols xrs xcs))) result x.new }
 {
-    let va = view_of(astart, arows, acols, ars, acs);
-    let vx = view_of(xstart, xrows, xcols, xrs, xcs);
-    if is_uplo_trans_diag(uplo, trans, diag) {
-        number(triangle_real32::trsv::trsv(
-            uplo_of(uplo),
-            trans_of(trans),
-            diag_of(diag),
-            a,
-            va,
-            x,
-            vx,
-        ))
-    } else {
-        number(judge2(va, a.len(), vx, x.len(), false))
+    let va = View::new(astart, arows, acols, ars, acs);
+    let vx = View::new(xstart, xrows, xcols, xrs, xcs);
+    match uplo_trans_diag(uplo, trans, diag) {
+        Ok((uplo, trans, diag)) => u8::from(triangle_real::trsv::trsv::<f32>(uplo, trans, diag, a, va, x, vx)),
+        Err(_) => u8::from(judge2(va, a.len(), vx, x.len(), false)),
     }
 }
 
@@ -598,22 +472,11 @@ pub extern "C" fn zb_strmm(
 ) -> u8
     ensures { Returns real32 (trmm_c real32 side uplo trans diag alpha (lent real32 a.now (view_of astart arows acols ars acs)) (lent real32 b.old (view_of bstart brows bcols brs bcs))) result b.new }
 {
-    let va = view_of(astart, arows, acols, ars, acs);
-    let vb = view_of(bstart, brows, bcols, brs, bcs);
-    if is_side_uplo_trans_diag(side, uplo, trans, diag) {
-        number(triangle_real32::trmm::trmm(
-            side_of(side),
-            uplo_of(uplo),
-            trans_of(trans),
-            diag_of(diag),
-            Real32(alpha),
-            a,
-            va,
-            b,
-            vb,
-        ))
-    } else {
-        number(judge2(va, a.len(), vb, b.len(), false))
+    let va = View::new(astart, arows, acols, ars, acs);
+    let vb = View::new(bstart, brows, bcols, brs, bcs);
+    match side_uplo_trans_diag(side, uplo, trans, diag) {
+        Ok((side, uplo, trans, diag)) => u8::from(triangle_real::trmm::trmm::<f32>(side, uplo, trans, diag, alpha, a, va, b, vb)),
+        Err(_) => u8::from(judge2(va, a.len(), vb, b.len(), false)),
     }
 }
 
@@ -640,21 +503,10 @@ pub extern "C" fn zb_strsm(
 ) -> u8
     ensures { Returns real32 (trsm_c real32 side uplo trans diag alpha (lent real32 a.now (view_of astart arows acols ars acs)) (lent real32 b.old (view_of bstart brows bcols brs bcs))) result b.new }
 {
-    let va = view_of(astart, arows, acols, ars, acs);
-    let vb = view_of(bstart, brows, bcols, brs, bcs);
-    if is_side_uplo_trans_diag(side, uplo, trans, diag) {
-        number(triangle_real32::trsm::trsm(
-            side_of(side),
-            uplo_of(uplo),
-            trans_of(trans),
-            diag_of(diag),
-            Real32(alpha),
-            a,
-            va,
-            b,
-            vb,
-        ))
-    } else {
-        number(judge2(va, a.len(), vb, b.len(), false))
+    let va = View::new(astart, arows, acols, ars, acs);
+    let vb = View::new(bstart, brows, bcols, brs, bcs);
+    match side_uplo_trans_diag(side, uplo, trans, diag) {
+        Ok((side, uplo, trans, diag)) => u8::from(triangle_real::trsm::trsm::<f32>(side, uplo, trans, diag, alpha, a, va, b, vb)),
+        Err(_) => u8::from(judge2(va, a.len(), vb, b.len(), false)),
     }
 }

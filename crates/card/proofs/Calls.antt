@@ -1,6 +1,6 @@
 -- The calls: what the code has worked out gives the answer, what is handed back and what is left.
 use mathlib.Core.Path.{◌≡◌, refl, sym, ap, subst, ◌∙◌}
-use mathlib.Core.Bool.{Bool, true, false, not, true≢false, false≢true}
+use mathlib.Core.Bool.{Bool, true, false, not, true≢false}
 use Prim.Native.Nat.{ℕ, ◌+◌, ◌*◌, ◌/◌, ◌%◌, ◌<◌, ◌≤◌}
 use native.Mathlib.Omega.{arith}
 use mathlib.Core.List.{List}
@@ -36,20 +36,6 @@ no-rest n h = eqb→eq n 0 (go (eqb n 0) h)
     go false h = absurd (true≢false h)
 
 -- ---- an answer that is Done
-
-pub is-done : (a : CardAnswer) → is_done a ≡ true → a ≡ Done
-is-done Done h = refl
-is-done TooLarge h = absurd (false≢true h)
-is-done TooShort h = absurd (false≢true h)
-is-done Torn h = absurd (false≢true h)
-is-done Wrong h = absurd (false≢true h)
-
-pub changed-none : {A : Type 0} (x : CardAnswer) (old new : A) → is_done x ≡ false → old ≡ changed x old new
-changed-none Done old new e = absurd (true≢false e)
-changed-none TooLarge old new e = refl
-changed-none TooShort old new e = refl
-changed-none Torn old new e = refl
-changed-none Wrong old new e = refl
 
 -- a refusal is not Done, and what it would leave is not left
 refused-by : (b : Bool) (x y : CardAnswer) → is_done x ≡ false → choose b x y ≡ Done → (b ≡ false) × (y ≡ Done)

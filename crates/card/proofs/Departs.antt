@@ -2,7 +2,6 @@
 use mathlib.Core.Path.{◌≡◌, refl, sym, ap, subst, ◌∙◌}
 use mathlib.Core.Bool.{Bool, true, false, not}
 use Prim.Native.Nat.{ℕ, zero, suc, ◌+◌, ◌-◌, ◌*◌, ◌/◌, ◌%◌, ◌<◌, ◌≤◌, min}
-use native.Mathlib.Numerals.{add-one}
 use native.Mathlib.Omega.{arith}
 use mathlib.Core.List.{List}
 use lib.Dec.{eqb}
@@ -13,7 +12,7 @@ use Rattle.view.proofs.AnyLaws.{finds, none, none-at, is_true, both_ways, clash}
 use Rattle.encoding.specs.Little.{byte_of, little, half}
 use Rattle.encoding.proofs.LittleLaws.{byte_of-little, half-little}
 use Rattle.card.specs.declared.Header.{Header}
-use Rattle.card.specs.Layout.{header_byte, header_bytes, index_bytes, data_byte, body_byte, count}
+use Rattle.card.specs.Layout.{header_byte, header_bytes, index_bytes, data_byte, body_byte}
 use Rattle.card.specs.Reading.{Bytes, header_of, torn_block, sum_of, differs, departs, pattern}
 use Rattle.card.specs.Scanning.{nonzero, data_departs}
 
@@ -233,7 +232,3 @@ data-rest-is b k n m z x t known e e' p p' q q' = both_ways _ _
 
     four : (j : ℕ) → 506 ≤ j → j < 510 → j - 506 < 4
     four j h l = omega arith
-
-pub later-is : (h : Header) (d n l : ℕ) (b : List ℕ) (t : Bool) → n ≡ count h → l ≡ n - 63 * d → t ≡ data_departs (d + 1) l b → t ≡ departs h (suc d) b
-unfolding body_byte
-later-is h d n l b t p q r = r ∙ (λ i. data_departs (add-one d i) ((q ∙ ap (λ (x : ℕ). x - 63 * d) p) i) b)

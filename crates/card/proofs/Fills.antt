@@ -10,7 +10,7 @@ use lib.Ieee.{Float, binary64, nan, to_bits}
 use lib.ListN.{length, get_or, take, drop, length-drop}
 use lib.Seq.{ext_get_or, get_or-take, get_or-drop, length-take-le}
 use borrow.Author.Tests.{lt-ltb, le-ltb}
-use borrow.Rule.Slice.PartMut.{mid_len, mid_of, put_mid}
+use borrow.Rule.Slice.PartMut.{mid_of, put_mid}
 use Rattle.encoding.specs.Little.{byte_of}
 use Rattle.encoding.specs.Stored.{stored}
 use Rattle.encoding.proofs.StoredLaws.{length-stored, stored-before, stored-cong, stored-in, stored_more, stored-part}
@@ -45,9 +45,6 @@ block-sum f r = rw (le-ltb (510 + r) 510 (le r)) (ap (byte_of (total 510 f % 655
 
     back : (r : ℕ) → 510 + r - 510 ≡ r
     back r = omega arith
-
-pub sealed-is : (t w : ℕ) (x y : List ℕ) → t ≡ sum_of x → y ≡ stored 510 2 (byte_of w) x → w ≡ t % 65536 → y ≡ sealed x
-sealed-is t w x y p q e = q ∙ (λ i. stored 510 2 (byte_of ((e ∙ ap (λ (n : ℕ). n % 65536) p) i)) x)
 
 -- a block whose bytes 0 to 509 are f's, with its sum stored, is f's block
 pub seal-is : (f : ℕ → ℕ) (s x y : List ℕ) → length s ≡ 512 → length x ≡ 512 → ((j : ℕ) → j < 510 → get_or x j 0 ≡ f j) → y ≡ sealed x → y ≡ stored 0 512 (block_byte f) s
@@ -242,10 +239,3 @@ card-next h bits k s t u v p l q r =
 
 pub card-length : (h : Header) (bits : ℕ → ℕ) (m : ℕ) (s v : List ℕ) → v ≡ stored 0 m (card_byte h bits) s → length v ≡ length s
 card-length h bits m s v e = ap length e ∙ length-stored 0 m (card_byte h bits) s
-
--- the part of the buffer that is lent for block k
-pub part_length : (k : ℕ) (s : List ℕ) → 512 * k + 512 ≤ length s → length (mid_of (512 * k) (512 * k + 512 - 512 * k) s) ≡ 512
-part_length k s h = mid_len (512 * k) (512 * k + 512) s h ∙ size k
-  where
-    size : (k : ℕ) → 512 * k + 512 - 512 * k ≡ 512
-    size k = omega arith

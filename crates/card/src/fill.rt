@@ -1,4 +1,5 @@
-// Fills one block of a card that is written.
+// Fills one block of a card that is written, which is a slice of 512 bytes. Tried as an array, lent by `as_mut_array` and
+// `unwrap`: the proof of what the buffer then holds did not close.
 ghost use Rattle.std.specs.Prelude.{◌≡◌, ◌+◌, ◌-◌, ◌*◌, ◌≤◌, ◌<◌, length};
 ghost use Rattle.encoding.specs.Stored.{stored};
 ghost use Rattle.card.specs.Layout.{block_byte, blocks, body_byte, count, data_byte, header_byte, patterns};

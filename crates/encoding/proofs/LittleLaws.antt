@@ -5,7 +5,7 @@ use native.Mathlib.Nat.{pow-succ', zero-lt-suc, le_of_suc-le-suc, not-suc-le-zer
 use native.Mathlib.Omega.{arith}
 use mathlib.Core.List.{List}
 use lib.ListN.{get_or}
-use Rattle.encoding.specs.Little.{byte_of, little, half, double}
+use Rattle.encoding.specs.Little.{byte_of, little, half}
 
 pub byte_of-lt : (n j : ℕ) → byte_of n j < 256
 unfolding byte_of
@@ -86,7 +86,7 @@ rest-next n j r h = record { bytes = λ i. h.bytes (suc i) ∙ ap (byte_of n) (n
     next : (j i : ℕ) → j + suc i ≡ j + 1 + i
     next j i = omega arith
 
--- two and eight bytes of a list
+-- two bytes of a list
 pub half-little : (s : List ℕ) (at k : ℕ) → half s at k ≡ little 2 (λ j. get_or s (at + k + j) 0)
 unfolding little
 half-little s at k = rw (i0, i1) (omega arith)
@@ -96,31 +96,3 @@ half-little s at k = rw (i0, i1) (omega arith)
 
     i1 : at + k + 1 ≡ at + (k + 1)
     i1 = omega arith
-
-pub double-little : (s : List ℕ) (at k : ℕ) → double s at k ≡ little 8 (λ j. get_or s (at + k + j) 0)
-unfolding little
-double-little s at k = rw (i0, i1, i2, i3, i4, i5, i6, i7) (omega arith)
-  where
-    i0 : at + k + 0 ≡ at + k
-    i0 = omega arith
-
-    i1 : at + k + 1 ≡ at + (k + 1)
-    i1 = omega arith
-
-    i2 : at + k + 2 ≡ at + (k + 2)
-    i2 = omega arith
-
-    i3 : at + k + 3 ≡ at + (k + 2 + 1)
-    i3 = omega arith
-
-    i4 : at + k + 4 ≡ at + (k + 4)
-    i4 = omega arith
-
-    i5 : at + k + 5 ≡ at + (k + 4 + 1)
-    i5 = omega arith
-
-    i6 : at + k + 6 ≡ at + (k + 4 + 2)
-    i6 = omega arith
-
-    i7 : at + k + 7 ≡ at + (k + 4 + 2 + 1)
-    i7 = omega arith

@@ -15,6 +15,8 @@ impl Number for Complex {
 
     type Multiplier = Multiplier;
 
+    const LANES: usize = 4;
+
     ghost numbers = { complex_numbers };
 
     ghost multipliers = { complex_multipliers };

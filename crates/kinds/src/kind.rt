@@ -16,6 +16,9 @@ pub trait Number: Copy {
 
     type Multiplier: Copy;
 
+    // How many sums side by side the processor's registers hold.
+    const LANES: usize;
+
     ghost numbers: { Numbers Self.Cell Self Self.Factor };
 
     ghost multipliers: { Multipliers numbers Self.Multiplier };

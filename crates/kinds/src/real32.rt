@@ -16,6 +16,8 @@ impl Number for f32 {
 
     type Multiplier = f32;
 
+    const LANES: usize = 8;
+
     ghost numbers = { real_numbers binary32 };
 
     ghost multipliers = { real_multipliers binary32 };

@@ -16,6 +16,8 @@ impl Number for f64 {
 
     type Multiplier = f64;
 
+    const LANES: usize = 8;
+
     ghost numbers = { real_numbers binary64 };
 
     ghost multipliers = { real_multipliers binary64 };

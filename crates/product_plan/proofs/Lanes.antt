@@ -42,15 +42,11 @@ module _ {w : ℕ} (K : Kind) (S : SelfConjugate K) (f : Factors) (a b : List K.
   lanes-next h e eu n =
       eight-same K next _ _ n (λ t l. real-next K S f a b i (j + t) (x t) from p (lane K sums t) u (elem K b f.right p (j + t)) _ _ h (e.sum t l) eu refl refl refl)
 
-  -- the same where the right factors lie side by side from place k on
-  pub beside-next : (lb k : ℕ) → f.right.cs ≡ pos 1 → ((t : ℕ) → t < w → Within f.right lb p (j + t)) → k ≡ index f.right p j
-      → from ≤ p → Lanes K w sums (λ t. plus_terms K (x t) (term K f a b i (j + t)) from (p - from)) → u ≡ elem K a f.left i p
-      → Lanes K w next (λ t. K.add (lane K sums t) (K.mul u (K.at b (k + t))))
-      → Lanes K w next (λ t. plus_terms K (x t) (term K f a b i (j + t)) from (p + 1 - from))
-  beside-next lb k one within ek h e eu n =
-      lanes-next h e eu
-      (eight-same K next _ _ n (λ t l. ap (λ (q : ℕ). K.add (lane K sums t) (K.mul u (K.at b q)))
-      (ap (λ (q : ℕ). q + t) ek ∙ sym (beside f.right lb p j t one (within t l)))))
+-- elements of a row that lie side by side from place k on, u times each added to a sum
+pub beside-lanes : {w : ℕ} (K : Kind) (v : View) (len k p j : ℕ) (s : List K.Cell) (sums next : List K.Elem) (u : K.Elem) → v.cs ≡ pos 1 → ((t : ℕ) → t < w → Within v len p (j + t)) → k ≡ index v p j
+    → Lanes K w next (λ t. K.add (lane K sums t) (K.mul u (K.at s (k + t)))) → Lanes K w next (λ t. K.add (lane K sums t) (K.mul u (elem K s v p (j + t))))
+beside-lanes K v len k p j s sums next u one within e n =
+    eight-same K next _ _ n (λ t l. ap (λ (q : ℕ). K.add (lane K sums t) (K.mul u (K.at s q))) (ap (λ (q : ℕ). q + t) e ∙ sym (beside v len p j t one (within t l))))
 
 -- ---- whole sums
 

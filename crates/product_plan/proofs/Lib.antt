@@ -2,6 +2,7 @@
 pub mod Sums
 pub mod Lanes
 pub mod Rows
+pub mod Blocks
 pub mod Products
 pub mod Ready
 pub mod Upper

@@ -97,6 +97,10 @@ left_turn = AtRow
 abbrev pub right_turn : Turn
 right_turn = PastCol
 
+-- A on the left or not
+abbrev pub upper_turn : Bool → Turn
+upper_turn left = cond left left_turn right_turn
+
 abbrev pub is_left : Side → Bool
 is_left Left = true
 is_left Right = false

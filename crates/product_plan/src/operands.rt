@@ -28,6 +28,27 @@ pub struct Operands<'a, N: Number> {
 }
 
 impl<'a, N: Number> Operands<'a, N> {
+    // The same with the left factors' slab for the right ones', and the other way round.
+    pub fn exchanged(&self) -> Operands<'a, N>
+        ensures { (result.a.now ≡ self.now.b.now) × (result.b.now ≡ self.now.a.now) × (result.alpha ≡ self.now.alpha) × (result.beta ≡ self.now.beta) }
+    {
+        Operands {
+            a: self.b,
+            b: self.a,
+            alpha: self.alpha,
+            beta: self.beta,
+        }
+    }
+
+    // Term p of element (i, j).
+    pub fn term(&self, f: Factors, i: usize, j: usize, p: usize) -> N
+        requires { Within f.left (N.numbers.count self.now.a.now) i p × Within f.right (N.numbers.count self.now.b.now) p j }
+        ensures { result ≡ term (kind N.numbers) f self.now.a.now self.now.b.now i j p }
+    {
+        let x: N = elem_conj(f.left_conj, self.a, f.left, i, p);
+        x.mul(elem_conj(f.right_conj, self.b, f.right, p, j))
+    }
+
     // The sum with the terms of element (i, j) from `from` to before `end` added.
     #[tactic(auto, using(crate::proofs::Steps::terms))]
     pub fn add_run(&self, f: Factors, i: usize, j: usize, from: usize, end: usize, sum: N) -> N
@@ -36,13 +57,13 @@ impl<'a, N: Number> Operands<'a, N> {
     {
         let mut total = sum;
         for p in from..end {
-            let x: N = elem_conj(f.left_conj, self.a, f.left, i, p);
-            total = total.add(x.mul(elem_conj(f.right_conj, self.b, f.right, p, j)));
+            total = total.add(self.term(f, i, j, p));
         }
         total
     }
 
     // Element (i, j) of a target scaled, with alpha times the sum added.
+    #[inline(always)]
     pub fn settle(&self, v: View, c: &mut [N::Cell], i: usize, j: usize, sum: N)
         requires { Within v (N.numbers.count c.old) i j }
         ensures { c.new ≡ replaced (kind N.numbers) v i j (λ x. N.numbers.add (scale_by N.numbers N.multipliers self.now.beta x) (N.multipliers.times self.now.alpha sum)) c.old }
@@ -127,6 +148,7 @@ impl<'a, N: Number> Operands<'a, N> {
     }
 
     // The sum of element (i, j) of a folded plan, which turns after k terms.
+    #[inline(always)]
     #[tactic(auto, using(crate::proofs::Steps::sums))]
     pub fn turned_sum(&self, plan: Folded, k: usize, i: usize, j: usize) -> N
         requires { CanFold N.numbers plan self.now × (i < plan.target.rows) × (j < plan.target.cols) × (k ≡ terms_before plan.turn i j) }
@@ -137,6 +159,7 @@ impl<'a, N: Number> Operands<'a, N> {
     }
 
     // The same, with its turn found.
+    #[inline(always)]
     pub fn folded_sum(&self, plan: Folded, i: usize, j: usize) -> N
         requires { CanFold N.numbers plan self.now × (i < plan.target.rows) × (j < plan.target.cols) }
         ensures { result ≡ folded_product (kind N.numbers) plan self.now.a.now self.now.b.now i j }

@@ -9,37 +9,19 @@ use Rattle.view.specs.declared.UpLo.{UpLo}
 use Rattle.view.specs.Place.{op_view_of}
 use Rattle.view.specs.Steps.{Accepted}
 use Rattle.view.specs.Judge.{arg}
-use Rattle.view.specs.Checks.{op_rows, op_cols, trmv_shape, hemv_shape, syr2k_shape}
-use Rattle.view.proofs.JudgeLaws.{Passed, Vector, trmv-sizes, hemv-sizes, syr2k-sizes}
+use Rattle.view.specs.Checks.{op_rows, op_cols, syr2k_shape}
+use Rattle.view.proofs.JudgeLaws.{Passed, Vector, syr2k-sizes}
 use Rattle.view.proofs.TransposeLaws.{op-accepted}
 use Rattle.view.specs.Vector.{column_of}
 use Rattle.view.proofs.VectorLaws.{column-accepted}
 use Rattle.rank_plan.specs.declared.plan.Readings.{Readings}
 use Rattle.rank_plan.specs.Plan.{paired_plan, syr_readings, her_readings}
-use Rattle.rank_plan.specs.Ready.{Sized, One, Two, Paired}
+use Rattle.rank_plan.specs.Ready.{Sized, Paired}
 
 -- ---- vectors
 
-column-sized : (v : View) (len n : ℕ) → Vector v n → Accepted v len → Sized (column_of v) len n 1
-column-sized v len n s h = record { fits = column-accepted v len s.vector h; rows = s.length; cols = refl }
-
-pub her-ready : (x a : View) (lx la : ℕ) → Passed (arg x lx ∷ arg a la ∷ []) (trmv_shape a x) a → One (column_of x) lx a la
-her-ready x a lx la h =
-    let s = trmv-sizes a x h.shape in
-    record {
-      x = column-sized x lx a.rows s.1 h.each.0;
-      target = record { fits = h.each.1.0; rows = refl; cols = s.0 };
-    }
-
-pub her2-ready : (x y a : View) (lx ly la : ℕ) → Passed (arg x lx ∷ arg y ly ∷ arg a la ∷ []) (hemv_shape a x y) a
-    → Two (column_of x) lx (column_of y) ly a la
-her2-ready x y a lx ly la h =
-    let s = hemv-sizes a x y h.shape in
-    record {
-      x = column-sized x lx a.rows s.1 h.each.0;
-      y = column-sized y ly a.rows s.2 h.each.1.0;
-      target = record { fits = h.each.1.1.0; rows = refl; cols = s.0 };
-    }
+pub column-inside : (v : View) (len n : ℕ) → Vector v n → Accepted v len → Sized (column_of v) len (column_of v).rows 1
+column-inside v len n s h = record { fits = column-accepted v len s.vector h; rows = refl; cols = refl }
 
 -- ---- matrices
 

@@ -17,17 +17,17 @@ add_two K w w' x y j old = K.add (K.add old (K.mul w (K.conj (y j 0)))) (K.mul w
 -- ---- syr2k and her2k
 
 -- what weighs the left factors, those of A and those of B, and the sum of the products
-pub record Weights (K : Kind) : Type 0 where
-  pub left_a : K.Elem → K.Elem
-  pub left_b : K.Elem → K.Elem
-  pub sum : K.Elem → K.Elem
+pub record Weights (Elem : Type 0) : Type 0 where
+  pub left_a : Elem → Elem
+  pub left_b : Elem → Elem
+  pub sum : Elem → Elem
 
 -- syr2k: alpha weighs the sum
-abbrev pub sum_weighed : (K : Kind) → K.Elem → Weights K
+abbrev pub sum_weighed : (K : Kind) → K.Elem → Weights K.Elem
 sum_weighed K alpha = record { left_a = λ x. x; left_b = λ x. x; sum = K.mul alpha }
 
 -- her2k: alpha and its conjugate weigh the left factors
-abbrev pub factors_weighed : (K : Kind) → K.Elem → Weights K
+abbrev pub factors_weighed : (K : Kind) → K.Elem → Weights K.Elem
 factors_weighed K alpha = record { left_a = K.mul alpha; left_b = K.mul (K.conj alpha); sum = λ x. x }
 
 module _ (K : Kind) (plan : Plan) (a b : List K.Cell) where
@@ -44,7 +44,7 @@ module _ (K : Kind) (plan : Plan) (a b : List K.Cell) where
   abbrev pub right_matrix_a : Matrix K
   right_matrix_a = elem_conj K plan.right_conj a plan.right_a
 
-  module _ (w : Weights K) where
+  module _ (w : Weights K.Elem) where
     -- the two products at p
     abbrev pub first_at : ℕ → ℕ → ℕ → K.Elem
     first_at i j p = K.mul (w.left_a (left_matrix_a i p)) (right_matrix_b p j)

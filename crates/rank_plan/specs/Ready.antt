@@ -1,8 +1,7 @@
 -- What the code asks of its caller: that it reads and writes inside the slabs, of la, lb and lc elements.
-use Rattle.std.specs.Prelude.{ℕ, ◌+◌, ◌≤◌, ◌<◌, ◌≡◌}
+use Rattle.std.specs.Prelude.{ℕ, ◌≡◌}
 use Rattle.view.specs.declared.View.{View}
 use Rattle.view.specs.Steps.{Accepted}
-use Rattle.slabs.specs.Eight.{Block}
 use Rattle.rank_plan.specs.declared.plan.Plan.{Plan}
 
 -- a view that fits its slab and has m rows and n columns
@@ -15,16 +14,6 @@ pub record Sized (v : View) (len m n : ℕ) : Type 0 where
 abbrev pub SquareWithin : View → ℕ → Type 0
 SquareWithin v len = Sized v len v.rows v.rows
 
--- her and her2: x and y are columns as long as the square target
-pub record One (vx : View) (lx : ℕ) (va : View) (la : ℕ) : Type 0 where
-  pub x : Sized vx lx va.rows 1
-  pub target : SquareWithin va la
-
-pub record Two (vx : View) (lx : ℕ) (vy : View) (ly : ℕ) (va : View) (la : ℕ) : Type 0 where
-  pub x : Sized vx lx va.rows 1
-  pub y : Sized vy ly va.rows 1
-  pub target : SquareWithin va la
-
 -- syr2k and her2k: the factors have the target's rows and the terms, or the terms and the target's columns
 pub record Factors (plan : Plan) (la lb : ℕ) : Type 0 where
   pub left-a : Sized plan.left_a la plan.target.rows plan.terms
@@ -35,15 +24,3 @@ pub record Factors (plan : Plan) (la lb : ℕ) : Type 0 where
 pub record Paired (plan : Plan) (la lb lc : ℕ) : Type 0 where
   pub factors : Factors plan la lb
   pub target : SquareWithin plan.target lc
-
--- the same, with w elements of row i of the target, those from column j on
-pub record Entries (w : ℕ) (plan : Plan) (la lb i j : ℕ) : Type 0 where
-  pub factors : Factors plan la lb
-  pub row : i < plan.target.rows
-  pub cols : j + w ≤ plan.target.cols
-
--- columns `first` to before `end` of row i of the target, among the w columns from `from` on
-pub record BlockWithin (w : ℕ) (plan : Plan) (la lb lc i from first end : ℕ) : Type 0 where
-  pub paired : Paired plan la lb lc
-  pub row : i < plan.target.rows
-  pub block : Block w from first end plan.target.cols

@@ -3,16 +3,12 @@
 #![tactic(auto)]
 
 mod cells;
-pub mod complex;
 mod file;
-pub mod real32;
-pub mod real64;
 mod record;
+mod routine;
 mod tally;
 
+pub use cells::{Cell, OfParts, fill, same};
 pub use file::{LONGEST, List, next, open};
-pub use record::{
-    answer, check_length, check_view, check_whole, diag, kind, routine, side, target, trans, uplo,
-    view,
-};
-pub use tally::{counted, report};
+pub use record::{Arg, Record};
+pub use routine::{Kind, Routine, UnknownNumber};

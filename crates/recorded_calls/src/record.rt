@@ -1,213 +1,222 @@
 // The fields of a record. A field past the record's end reads as 0.
-ghost use Rattle.std.specs.Prelude.{◌≡◌, ◌≤◌, get_or};
+ghost use Rattle.std.specs.Prelude.{◌≡◌, ◌≤◌, ◌<◌, ◌==◌, get_or, IfSome};
+ghost use Rattle.recorded_calls.specs.Numbers.{Decodes, routine_number, kind_number, given_number};
 
+use crate::routine::{Kind, Routine, UnknownNumber};
 use encoding::little::{byte, double_at};
-use view::{Diag, Side, Trans, UpLo, View};
+use view::{Answer, Diag, Side, Trans, UpLo, View};
 
 // The most cells of a slab.
-const SLAB: usize = 144;
+pub(crate) const SLAB: usize = 144;
 
-pub fn routine(body: &[u8]) -> u8
-    ensures { result ≡ get_or body.now 0 0 }
-{
-    byte(body, 0)
+// The number for the answer of a routine that the list does not have.
+const NO_ROUTINE: u8 = 255;
+
+// A record's bytes, without the length before them.
+#[derive(Clone, Copy)]
+pub struct Record<'a> {
+    pub bytes: &'a [u8],
 }
 
-// The number kind of a record: 0 is f64, 1 f32, 2 complex, 3 a check's, of views alone.
-pub fn kind_of(body: &[u8]) -> u8
-    ensures { result ≡ get_or body.now 1 0 }
-{
-    byte(body, 1)
+// A view of a call, with the length of its slab in elements.
+#[derive(Clone, Copy)]
+pub struct Arg {
+    pub view: View,
+    pub len: usize,
 }
 
-pub fn answer(body: &[u8]) -> u8
-    ensures { result ≡ get_or body.now 2 0 }
-{
-    byte(body, 2)
-}
+impl Record<'_> {
+    pub fn routine(self) -> Result<Routine, UnknownNumber>
+        ensures { Decodes routine_number 16 (get_or self.entry.bytes.now 0 0) result }
+    {
+        Routine::try_from(byte(self.bytes, 0))
+    }
 
-// The number of views.
-fn views(body: &[u8]) -> u8
-    ensures { result ≡ get_or body.now 3 0 }
-{
-    byte(body, 3)
-}
+    // The number of the answer of the call, which in a list may be any.
+    pub fn answer(self) -> u8
+        ensures { result ≡ get_or self.entry.bytes.now 2 0 }
+    {
+        byte(self.bytes, 2)
+    }
 
-// The number of the target's view, which is the last.
-pub fn target(body: &[u8]) -> u8 {
-    let n = views(body);
-    if n == 0 { 0 } else { n - 1 }
-}
+    // Whether the answer is a call's, which gave none where the list has no such routine.
+    pub fn has_answer(self, given: Option<Answer>) -> bool
+        ensures { result ≡ (given_number given == get_or self.entry.bytes.now 2 0) }
+    {
+        given.map_or(NO_ROUTINE, u8::from) == self.answer()
+    }
 
-// The number of views that a routine has.
-fn views_of(routine: u8) -> u8 {
-    match routine {
-        2 | 4 | 5 | 9 | 10 | 13 | 14 => 2,
-        _ => 3,
+    // The number of views.
+    fn views(self) -> usize
+        ensures value { result ≡ get_or self.entry.bytes.now 3 0 }
+        ensures bound { result < 256 }
+    {
+        usize::from(byte(self.bytes, 3))
+    }
+
+    // The number of the target's view, which is the last.
+    pub fn target(self) -> usize
+        ensures { result < 256 }
+    {
+        self.views().saturating_sub(1)
+    }
+
+    // Where the counts of the call's routine and kind are among those of a list.
+    pub(crate) fn slot(self) -> usize {
+        4 * usize::from(byte(self.bytes, 0)) + usize::from(byte(self.bytes, 1))
+    }
+
+    // Flag k of the routine's arguments; `last` where no flag has its number.
+    fn flag<F: TryFrom<u8> + Drop>(self, k: usize, last: F) -> F
+    where
+        F::Error: Drop,
+    {
+        let flags = self.bytes.get(4..).unwrap_or(&[]);
+        F::try_from(byte(flags, k)).unwrap_or(last)
+    }
+
+    pub fn trans(self, k: usize) -> Trans {
+        self.flag(k, Trans::ConjTrans)
+    }
+
+    pub fn uplo(self, k: usize) -> UpLo {
+        self.flag(k, UpLo::Lower)
+    }
+
+    pub fn diag(self, k: usize) -> Diag {
+        self.flag(k, Diag::Unit)
+    }
+
+    pub fn side(self, k: usize) -> Side {
+        self.flag(k, Side::Right)
+    }
+
+    // The view and the length of its slab, in the 48 bytes that begin at `at`.
+    fn arg_at(self, at: usize) -> Arg {
+        let number = |k| double_at(self.bytes, at, k);
+        let view = View::new(
+            number(0) as usize,
+            number(8) as usize,
+            number(16) as usize,
+            number(24).cast_signed(),
+            number(32).cast_signed(),
+        );
+        Arg {
+            view,
+            len: number(40) as usize,
+        }
+    }
+
+    // View k of a list of checks, which has no scalars.
+    pub fn check_arg(self, k: usize) -> Arg {
+        self.arg_at(check_place(k))
+    }
+
+    pub fn view(self, k: usize) -> View {
+        self.arg_at(place(k)).view
+    }
+
+    // The cells of slab k, and no more than a slab may have.
+    pub(crate) fn length(self, k: usize) -> usize
+        ensures { result ≤ 144 }
+    {
+        self.arg_at(place(k)).len.min(SLAB)
+    }
+
+    // The cells of the slabs before slab k.
+    fn cells_before(self, k: usize) -> usize
+        ensures { result ≤ 432 }
+    {
+        let mut cells = 0;
+        for j in 0..k.min(3) {
+            cells += self.length(j);
+        }
+        cells
+    }
+
+    // The bytes of that many cells.
+    fn size(self, cells: usize) -> usize
+        requires { cells ≤ 432 }
+        ensures { result ≤ 3456 }
+    {
+        match self.number_kind() {
+            Ok(Kind::F32) => 4 * cells,
+            _ => 8 * cells,
+        }
+    }
+
+    // Where the cells of slab k begin.
+    pub(crate) fn slab_place(self, k: usize) -> usize
+        ensures { result ≤ 16384 }
+    {
+        place(self.views()) + self.size(self.cells_before(k))
+    }
+
+    // Where the cells of the target's slab after the call begin.
+    pub(crate) fn after(self) -> usize
+        ensures { result ≤ 16384 }
+    {
+        self.slab_place(self.views())
+    }
+
+    // The views that the record's routine has; where there is no such routine, 3.
+    fn routine_views(self) -> usize {
+        self.routine().map_or(3, Routine::views)
+    }
+
+    // Whether slab k has no more cells than a slab may have.
+    fn fits(self, k: usize) -> bool {
+        self.arg_at(place(k)).len <= SLAB
+    }
+
+    // Whether a record of a call has its routine's views, and as many bytes as these ask.
+    fn is_whole(self) -> bool {
+        let last = self.target();
+        self.views() == self.routine_views()
+            && self.fits(0)
+            && self.fits(1)
+            && self.fits(last)
+            && self.bytes.len() == self.after() + self.size(self.length(last))
+    }
+
+    // The number kind, of any record.
+    fn number_kind(self) -> Result<Kind, UnknownNumber>
+        ensures { Decodes kind_number 4 (get_or self.entry.bytes.now 1 0) result }
+    {
+        Kind::try_from(byte(self.bytes, 1))
+    }
+
+    // The number kind of a record of a call that is whole.
+    pub fn kind(self) -> Option<Kind>
+        ensures { IfSome result (λ k. kind_number k ≡ get_or self.entry.bytes.now 1 0) }
+    {
+        if self.is_whole() {
+            self.number_kind().ok()
+        } else {
+            None
+        }
+    }
+
+    // Whether a record of a check is whole.
+    pub fn is_check(self) -> bool {
+        let n = self.views();
+        n == self.routine_views() && self.bytes.len() == check_place(n)
     }
 }
 
-// Where part k of the scalars begins: alpha's two parts, then beta's.
-pub fn scalar_place(k: u8) -> usize {
-    8 + 8 * usize::from(k)
-}
-
-// Flag k of the routine's arguments.
-fn flag(body: &[u8], k: u8) -> u8 {
-    byte(body, 4 + usize::from(k))
-}
-
-pub fn trans(body: &[u8], k: u8) -> Trans {
-    match flag(body, k) {
-        0 => Trans::NoTrans,
-        1 => Trans::Trans,
-        _ => Trans::ConjTrans,
-    }
-}
-
-pub fn uplo(body: &[u8], k: u8) -> UpLo {
-    match flag(body, k) {
-        0 => UpLo::Upper,
-        _ => UpLo::Lower,
-    }
-}
-
-pub fn diag(body: &[u8], k: u8) -> Diag {
-    match flag(body, k) {
-        0 => Diag::NonUnit,
-        _ => Diag::Unit,
-    }
-}
-
-pub fn side(body: &[u8], k: u8) -> Side {
-    match flag(body, k) {
-        0 => Side::Left,
-        _ => Side::Right,
-    }
-}
-
-// The view whose 48 bytes begin at `at`.
-fn view_at(body: &[u8], at: usize) -> View {
-    View {
-        start: double_at(body, at, 0) as usize,
-        rows: double_at(body, at, 8) as usize,
-        cols: double_at(body, at, 16) as usize,
-        rs: double_at(body, at, 24).cast_signed(),
-        cs: double_at(body, at, 32).cast_signed(),
-    }
-}
-
-// The slab length of the view whose 48 bytes begin at `at`.
-fn length_at(body: &[u8], at: usize) -> usize {
-    double_at(body, at, 40) as usize
-}
-
-// Where view k begins in a list of checks, which has no scalars.
-fn check_place(k: u8) -> usize {
-    8 + 48 * usize::from(k)
+// Where view k begins in a list of checks.
+fn check_place(k: usize) -> usize {
+    k.saturating_mul(48).saturating_add(8)
 }
 
 // Where view k begins in a list of calls, and where the cells begin, k being the number of views.
-fn place(k: u8) -> usize
-    ensures { result ≤ 12288 }
+fn place(k: usize) -> usize
+    ensures { k < 256 → result ≤ 12288 }
 {
-    40 + 48 * usize::from(k)
+    k.saturating_mul(48).saturating_add(40)
 }
 
-pub fn check_view(body: &[u8], k: u8) -> View {
-    view_at(body, check_place(k))
-}
-
-pub fn check_length(body: &[u8], k: u8) -> usize {
-    length_at(body, check_place(k))
-}
-
-pub fn view(body: &[u8], k: u8) -> View {
-    view_at(body, place(k))
-}
-
-// The cells of slab k; a slab has at most 144.
-pub fn length(body: &[u8], k: u8) -> usize
-    ensures { result ≤ 144 }
-{
-    let n = length_at(body, place(k));
-    if n <= SLAB { n } else { SLAB }
-}
-
-// The cells of the slabs before slab k.
-fn cells_before(body: &[u8], k: u8) -> usize
-    ensures { result ≤ 432 }
-{
-    if k == 0 {
-        0
-    } else if k == 1 {
-        length(body, 0)
-    } else if k == 2 {
-        length(body, 0) + length(body, 1)
-    } else {
-        length(body, 0) + length(body, 1) + length(body, 2)
-    }
-}
-
-// The bytes of that many cells.
-fn size(body: &[u8], cells: usize) -> usize
-    requires { cells ≤ 432 }
-    ensures { result ≤ 3456 }
-{
-    if kind_of(body) == 1 {
-        4 * cells
-    } else {
-        8 * cells
-    }
-}
-
-// Where the cells of slab k begin.
-pub fn slab(body: &[u8], k: u8) -> usize
-    ensures { result ≤ 16384 }
-{
-    place(views(body)) + size(body, cells_before(body, k))
-}
-
-// Where the cells of the target's slab after the call begin.
-pub fn after(body: &[u8]) -> usize
-    ensures { result ≤ 16384 }
-{
-    slab(body, views(body))
-}
-
-// Whether slab k has no more cells than a slab may have.
-fn short(body: &[u8], k: u8) -> bool {
-    length_at(body, place(k)) <= SLAB
-}
-
-// Whether a record of a call has its routine's views, and as many bytes as these ask.
-fn whole(body: &[u8]) -> bool {
-    let last = target(body);
-    if views(body) != views_of(routine(body)) {
-        return false;
-    }
-    if !short(body, 0) {
-        return false;
-    }
-    if !short(body, 1) {
-        return false;
-    }
-    if !short(body, last) {
-        return false;
-    }
-    body.len() == after(body) + size(body, length(body, last))
-}
-
-// The number kind of a record of a call that is whole; 255 of any other.
-pub fn kind(body: &[u8]) -> u8 {
-    if whole(body) { kind_of(body) } else { 255 }
-}
-
-// Whether a record of a check is whole.
-pub fn check_whole(body: &[u8]) -> bool {
-    if views(body) == views_of(routine(body)) {
-        body.len() == check_place(views(body))
-    } else {
-        false
-    }
+// Where part k of the scalars begins: alpha's two parts, then beta's.
+pub(crate) fn scalar_place(k: usize) -> usize {
+    k.saturating_mul(8).saturating_add(8)
 }

@@ -3,18 +3,14 @@
 #![tactic(auto)]
 
 mod call;
-mod record;
 
 use anyhow::{Context, Result};
+use call::CardCall;
 
 fn main(rt: HostRuntime) -> Result<()> {
-    let mut list = recorded_calls::open(&rt, b"card.bin").context("card.bin")?;
-    while list.left > 0 {
-        let mut space = [0u8; recorded_calls::LONGEST];
-        let n = recorded_calls::next(&mut list.file, &mut space)?;
-        let agreed = call::agrees(&space[..n]);
-        list = recorded_calls::counted(list, &space[..n], agreed);
-    }
-    recorded_calls::report(&rt, list)?;
+    let list = recorded_calls::open(&rt, b"card.bin").context("card.bin")?;
+    list.replay(&rt, |record| {
+        CardCall::of(record.bytes).is_some_and(CardCall::agrees)
+    })?;
     Ok(())
 }

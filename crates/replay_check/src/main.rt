@@ -5,56 +5,43 @@
 mod checks;
 
 use anyhow::{Context, Result};
-use recorded_calls::{check_length, check_view, side, trans};
-use view::number;
+use recorded_calls::{Record, Routine};
+use view::Answer;
 
 fn main(rt: HostRuntime) -> Result<()> {
-    let mut list = recorded_calls::open(&rt, b"check.bin").context("check.bin")?;
-    while list.left > 0 {
-        let mut space = [0u8; recorded_calls::LONGEST];
-        let n = recorded_calls::next(&mut list.file, &mut space)?;
-        let agreed = agrees(&space[..n]);
-        list = recorded_calls::counted(list, &space[..n], agreed);
-    }
-    recorded_calls::report(&rt, list)?;
+    let list = recorded_calls::open(&rt, b"check.bin").context("check.bin")?;
+    list.replay(&rt, agrees)?;
     Ok(())
 }
 
-fn agrees(body: &[u8]) -> bool {
-    if recorded_calls::check_whole(body) {
-        answer(body) == recorded_calls::answer(body)
-    } else {
-        false
-    }
+fn agrees(record: Record<'_>) -> bool {
+    record.is_check() && record.has_answer(answer(record))
 }
 
-// The number of the answer that the check of the record's routine gives; 255 where there is no such routine.
-fn answer(body: &[u8]) -> u8 {
-    let a = check_view(body, 0);
-    let la = check_length(body, 0);
-    let b = check_view(body, 1);
-    let lb = check_length(body, 1);
-    let c = check_view(body, 2);
-    let lc = check_length(body, 2);
-    let s = side(body, 0);
-    let t = trans(body, 0);
-    let u = trans(body, 1);
-    match recorded_calls::routine(body) {
-        0 => number(checks::gemv(t, a, la, b, lb, c, lc)),
-        1 => number(checks::hemv(a, la, b, lb, c, lc)),
-        2 => number(checks::her(a, la, b, lb)),
-        3 => number(checks::her2(a, la, b, lb, c, lc)),
-        4 => number(checks::trmv(a, la, b, lb)),
-        5 => number(checks::trsv(a, la, b, lb)),
-        6 => number(checks::gemm(t, u, a, la, b, lb, c, lc)),
-        7 => number(checks::symm(s, a, la, b, lb, c, lc)),
-        8 => number(checks::hemm(s, a, la, b, lb, c, lc)),
-        9 => number(checks::syrk(u, a, la, b, lb)),
-        10 => number(checks::herk(u, a, la, b, lb)),
-        11 => number(checks::syr2k(u, a, la, b, lb, c, lc)),
-        12 => number(checks::her2k(u, a, la, b, lb, c, lc)),
-        13 => number(checks::trmm(s, a, la, b, lb)),
-        14 => number(checks::trsm(s, a, la, b, lb)),
-        _ => 255,
+// The answer that the check of the record's routine gives.
+fn answer(record: Record<'_>) -> Option<Answer> {
+    let a = record.check_arg(0);
+    let b = record.check_arg(1);
+    let c = record.check_arg(2);
+    let s = record.side(0);
+    let t = record.trans(0);
+    let u = record.trans(1);
+    match record.routine().ok()? {
+        Routine::Gemv => Some(checks::gemv(t, a, b, c)),
+        Routine::Hemv => Some(checks::hemv(a, b, c)),
+        Routine::Her => Some(checks::her(a, b)),
+        Routine::Her2 => Some(checks::her2(a, b, c)),
+        Routine::Trmv => Some(checks::trmv(a, b)),
+        Routine::Trsv => Some(checks::trsv(a, b)),
+        Routine::Gemm => Some(checks::gemm(t, u, a, b, c)),
+        Routine::Symm => Some(checks::symm(s, a, b, c)),
+        Routine::Hemm => Some(checks::hemm(s, a, b, c)),
+        Routine::Syrk => Some(checks::syrk(u, a, b)),
+        Routine::Herk => Some(checks::herk(u, a, b)),
+        Routine::Syr2k => Some(checks::syr2k(u, a, b, c)),
+        Routine::Her2k => Some(checks::her2k(u, a, b, c)),
+        Routine::Trmm => Some(checks::trmm(s, a, b)),
+        Routine::Trsm => Some(checks::trsm(s, a, b)),
+        Routine::Card => None,
     }
 }

@@ -1,44 +1,33 @@
-// Replays a call of product_complex.
-use number::Complex;
-use recorded_calls::complex::{agree, alpha, beta, kept, scalar, slab};
-use recorded_calls::{routine, side, target, trans, uplo, view};
-use view::number;
+// The calls of product_complex. They are other functions than those of product_real, so this list of them stands beside that one.
+use kinds::Complex;
+use product_complex::gemm::gemm;
+use product_complex::gemv::gemv;
+use product_complex::hemm::hemm;
+use product_complex::hemv::hemv;
+use product_complex::herk::herk;
+use product_complex::symm::symm;
+use product_complex::syrk::syrk;
+use recorded_calls::{Record, Routine};
+use view::Answer;
 
-// Whether the call gives the record's answer and the target's slab after the call, and leaves the others.
-pub fn agrees(body: &[u8]) -> bool {
-    let mut s = [Complex::ZERO.re; 144];
-    let mut t = [Complex::ZERO.re; 144];
-    let mut u = [Complex::ZERO.re; 144];
-    let a = slab(body, 0, &mut s);
-    let b = slab(body, 1, &mut t);
-    let c = slab(body, target(body), &mut u);
-    let answer = call(body, a, b, c);
-    if agree(body, answer, a, c) {
-        kept(body, 1, b)
-    } else {
-        false
-    }
-}
-
-// The number of the answer; 255 where there is no such routine.
-fn call(body: &[u8], a: &[f64], b: &[f64], c: &mut [f64]) -> u8 {
-    let p = alpha(body);
-    let q = beta(body);
-    let x = scalar(body, 0);
-    let y = scalar(body, 2);
-    let va = view(body, 0);
-    let vb = view(body, 1);
-    let vc = view(body, target(body));
-    let t = trans(body, 1);
-    let u = uplo(body, 1);
-    match routine(body) {
-        0 => number(product_complex::gemv::gemv(trans(body, 0), p, a, va, b, vb, q, c, vc)),
-        1 => number(product_complex::hemv::hemv(uplo(body, 0), p, a, va, b, vb, q, c, vc)),
-        6 => number(product_complex::gemm::gemm(trans(body, 0), t, p, a, va, b, vb, q, c, vc)),
-        7 => number(product_complex::symm::symm(side(body, 0), u, p, a, va, b, vb, q, c, vc)),
-        8 => number(product_complex::hemm::hemm(side(body, 0), u, p, a, va, b, vb, q, c, vc)),
-        9 => number(product_complex::syrk::syrk(uplo(body, 0), t, p, a, va, q, c, vc)),
-        10 => number(product_complex::herk::herk(uplo(body, 0), t, x, a, va, y, c, vc)),
-        _ => 255,
+// The call of a record, on the first two slabs and the target's; none where the list has no such routine.
+pub fn call(record: Record<'_>, a: &[f64], b: &[f64], c: &mut [f64]) -> Option<Answer> {
+    let p: Complex = record.alpha();
+    let q: Complex = record.beta();
+    let va = record.view(0);
+    let vb = record.view(1);
+    let vc = record.view(record.target());
+    let side = record.side(0);
+    let (t, t1) = (record.trans(0), record.trans(1));
+    let (u, u1) = (record.uplo(0), record.uplo(1));
+    match record.routine().ok()? {
+        Routine::Gemv => Some(gemv(t, p, a, va, b, vb, q, c, vc)),
+        Routine::Hemv => Some(hemv(u, p, a, va, b, vb, q, c, vc)),
+        Routine::Gemm => Some(gemm(t, t1, p, a, va, b, vb, q, c, vc)),
+        Routine::Symm => Some(symm(side, u1, p, a, va, b, vb, q, c, vc)),
+        Routine::Hemm => Some(hemm(side, u1, p, a, va, b, vb, q, c, vc)),
+        Routine::Syrk => Some(syrk(u, t1, p, a, va, q, c, vc)),
+        Routine::Herk => Some(herk(u, t1, record.scalar(0), a, va, record.scalar(2), c, vc)),
+        _ => None,
     }
 }

@@ -3,28 +3,23 @@
 #![tactic(auto)]
 
 mod complex;
-mod real32;
-mod real64;
+mod real;
 
 use anyhow::{Context, Result};
+use recorded_calls::{Kind, Record};
 
 fn main(rt: HostRuntime) -> Result<()> {
-    let mut list = recorded_calls::open(&rt, b"product.bin").context("product.bin")?;
-    while list.left > 0 {
-        let mut space = [0u8; recorded_calls::LONGEST];
-        let n = recorded_calls::next(&mut list.file, &mut space)?;
-        let agreed = agrees(&space[..n]);
-        list = recorded_calls::counted(list, &space[..n], agreed);
-    }
-    recorded_calls::report(&rt, list)?;
+    let list = recorded_calls::open(&rt, b"product.bin").context("product.bin")?;
+    list.replay(&rt, agrees)?;
     Ok(())
 }
 
-fn agrees(body: &[u8]) -> bool {
-    match recorded_calls::kind(body) {
-        0 => real64::agrees(body),
-        1 => real32::agrees(body),
-        2 => complex::agrees(body),
-        _ => false,
+fn agrees(record: Record<'_>) -> bool {
+    let target = record.target();
+    match record.kind() {
+        Some(Kind::F64) => record.agrees(target, |a, b, c| real::call::<f64>(record, a, b, c)),
+        Some(Kind::F32) => record.agrees(target, |a, b, c| real::call::<f32>(record, a, b, c)),
+        Some(Kind::Complex) => record.agrees(target, |a, b, c| complex::call(record, a, b, c)),
+        Some(Kind::Views) | None => false,
     }
 }

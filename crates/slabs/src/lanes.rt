@@ -37,6 +37,7 @@ pub fn plus_lanes<N: Number, const W: usize>(
 }
 
 // The same with the elements conjugated or not.
+#[inline(always)]
 pub fn plus_conj_lanes<N: Number, const W: usize>(
     x: N,
     conj: bool,

@@ -1,83 +1,61 @@
 // The path as text.
-
-ghost use Rattle.std.specs.Prelude.{◌≤◌};
-
-use std::io;
-use text::{column, text};
+use std::{fmt, io};
+use text::Column;
 use view::Answer;
 
-pub fn taught(rt: &impl Print, poses: &[f64; 6]) -> io::Result<()> {
-    text(
-        rt,
-        b"Two points are taught, each at a station of the rail, counted from home (x, y, z):\n",
-    )?;
-    text(rt, b"station 2 ")?;
-    pose(rt, poses[0], poses[1], poses[2])?;
-    text(rt, b"\nstation 6 ")?;
-    pose(rt, poses[3], poses[4], poses[5])?;
-    text(rt, b"\n\nThe line through them\n")
-}
+// A pose: x, y and z, each in its column.
+#[derive(Clone, Copy)]
+struct Pose<'a>(&'a [f64]);
 
-fn pose(rt: &impl Print, x: f64, y: f64, z: f64) -> io::Result<()> {
-    column(rt, x)?;
-    column(rt, y)?;
-    column(rt, z)
-}
-
-pub fn call(rt: &impl Print, what: &[u8], answer: Answer) -> io::Result<()> {
-    text(rt, what)?;
-    text(rt, b"answer ")?;
-    print!(rt; "{}: ", view::number(answer))?;
-    sentence(rt, answer)?;
-    text(rt, b"\n")
-}
-
-fn sentence(rt: &impl Print, answer: Answer) -> io::Result<()> {
-    match answer {
-        Answer::Done => text(rt, b"done"),
-        Answer::TooLarge => text(rt, b"a view has more than 64 rows or columns"),
-        Answer::OutOfBounds => text(rt, b"some element of a view is outside its slab"),
-        Answer::ShapeMismatch => text(rt, b"the shapes do not go together"),
-        Answer::Overlap => text(rt, b"two elements of the target share a place"),
-        Answer::Singular => text(rt, b"a pivot is zero; what was solved before it stays"),
+impl fmt::Display for Pose<'_> {
+    fn fmt<W: fmt::Write>(&self, f: &mut fmt::Formatter<W>) -> fmt::Result {
+        for x in self.0 {
+            write!(f, "{}", Column(*x))?;
+        }
+        Ok(())
     }
 }
 
-pub fn waypoints(rt: &impl Print, way: &[f64; 15], wrong: &[f64; 15]) -> io::Result<()> {
-    text(
-        rt,
-        b"\nWaypoints                            one row short\n",
-    )?;
-    station(rt, b"station 2 ", way, wrong, 0)?;
-    station(rt, b"station 3 ", way, wrong, 3)?;
-    station(rt, b"station 4 ", way, wrong, 6)?;
-    station(rt, b"station 5 ", way, wrong, 9)?;
-    station(rt, b"station 6 ", way, wrong, 12)?;
-    text(
-        rt,
-        b"\nRefused calls: the target before them, and after each\n",
-    )
+// What a call answered, as a sentence.
+#[derive(Clone, Copy)]
+struct Outcome(Answer);
+
+impl fmt::Display for Outcome {
+    fn fmt<W: fmt::Write>(&self, f: &mut fmt::Formatter<W>) -> fmt::Result {
+        let sentence = match self.0 {
+            Answer::Done => "done",
+            Answer::TooLarge => "a view has more than 64 rows or columns",
+            Answer::OutOfBounds => "some element of a view is outside its slab",
+            Answer::ShapeMismatch => "the shapes do not go together",
+            Answer::Overlap => "two elements of the target share a place",
+            Answer::Singular => "a pivot is zero; what was solved before it stays",
+        };
+        write!(f, "{}: {sentence}", u8::from(self.0))
+    }
 }
 
-fn station(
-    rt: &impl Print,
-    name: &[u8],
-    way: &[f64; 15],
-    wrong: &[f64; 15],
-    at: usize,
-) -> io::Result<()>
-    requires { at ≤ 12 }
-{
-    text(rt, name)?;
-    pose(rt, way[at], way[at + 1], way[at + 2])?;
-    text(rt, b"      ")?;
-    pose(rt, wrong[at], wrong[at + 1], wrong[at + 2])?;
-    text(rt, b"\n")
+pub fn taught(rt: &impl Print, poses: &[f64; 6]) -> io::Result<()> {
+    println!(rt;
+        "Two points are taught, each at a station of the rail, counted from home (x, y, z):"
+    )?;
+    println!(rt; "station 2 {}", Pose(&poses[..3]))?;
+    println!(rt; "station 6 {}", Pose(&poses[3..]))?;
+    println!(rt; "\nThe line through them")
+}
+
+pub fn call(rt: &impl Print, what: &str, answer: Answer) -> io::Result<()> {
+    println!(rt; "{what:31}answer {}", Outcome(answer))
+}
+
+// The poses at the stations 2 to 6, in two columns.
+pub fn waypoints(rt: &impl Print, way: &[f64; 15], wrong: &[f64; 15]) -> io::Result<()> {
+    println!(rt; "\nWaypoints                            one row short")?;
+    for (station, (right, short)) in (2..7).zip(way.chunks(3).zip(wrong.chunks(3))) {
+        println!(rt; "station {station} {}      {}", Pose(right), Pose(short))?;
+    }
+    println!(rt; "\nRefused calls: the target before them, and after each")
 }
 
 pub fn pair(rt: &impl Print, line: &[f64; 6]) -> io::Result<()> {
-    pose(rt, line[0], line[1], line[2])?;
-    text(rt, b"   /")?;
-    pose(rt, line[3], line[4], line[5])?;
-    text(rt, b"\n")
+    println!(rt; "{}   /{}", Pose(&line[..3]), Pose(&line[3..]))
 }

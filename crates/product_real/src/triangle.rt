@@ -1,0 +1,44 @@
+// The named triangle of a target, element by element or eight columns at a time.
+
+ghost use Rattle.std.specs.Prelude.{◌≡◌, ◌<◌, ◌≤◌};
+ghost use Rattle.number.specs.Kind.{kind};
+ghost use Rattle.view.specs.Triangle.{in_triangle};
+ghost use Rattle.slabs.specs.Update.{update_row, update};
+ghost use Rattle.product_plan.specs.Work.{plan_work, CanRun};
+
+use crate::block::blocks;
+use kinds::Real;
+use product_plan::{Operands, Plan};
+use view::UpLo;
+
+// Row i of the triangle, eight columns at a time.
+fn wide_row<R: Real>(ops: &Operands<R>, uplo: UpLo, plan: Plan, c: &mut [R::Cell], i: usize)
+    requires { CanRun R.numbers plan ops.now c.old × (i < plan.target.rows) × (i < plan.target.cols) × (8 ≤ plan.target.cols) }
+    ensures { c.new ≡ update_row (kind R.numbers) plan.target (in_triangle uplo) (plan_work R.numbers R.multipliers plan ops.now) i plan.target.cols c.old }
+{
+    let end = uplo.end_col(i, plan.target.cols);
+    blocks(ops, plan, c, i, uplo.first_col(i), end);
+}
+
+// The whole triangle, eight columns at a time.
+#[tactic(auto, using(product_plan::proofs::Steps::rows))]
+fn run_wide<R: Real>(ops: &Operands<R>, uplo: UpLo, plan: Plan, c: &mut [R::Cell])
+    requires { CanRun R.numbers plan ops.now c.old × (plan.target.rows ≡ plan.target.cols) × (8 ≤ plan.target.cols) }
+    ensures { c.new ≡ update (kind R.numbers) plan.target (in_triangle uplo) (plan_work R.numbers R.multipliers plan ops.now) c.old }
+{
+    for i in 0..plan.target.rows {
+        wide_row(ops, uplo, plan, c, i);
+    }
+}
+
+// The whole triangle.
+pub(crate) fn run<R: Real>(ops: &Operands<R>, uplo: UpLo, plan: Plan, c: &mut [R::Cell])
+    requires { CanRun R.numbers plan ops.now c.old × (plan.target.rows ≡ plan.target.cols) }
+    ensures { c.new ≡ update (kind R.numbers) plan.target (in_triangle uplo) (plan_work R.numbers R.multipliers plan ops.now) c.old }
+{
+    if 8 <= plan.target.cols {
+        run_wide(ops, uplo, plan, c);
+    } else {
+        ops.run_triangle(uplo, plan, c);
+    }
+}

@@ -1,9 +1,0 @@
--- The plan that is made is the contract's.
-use Rattle.product_real32.proofs.Words.{rules}
-use Rattle.product_real32.proofs.symm.symm_narrow.Statement.{statement}
-use Rattle.product_real32.proofs.symm.symm_narrow.Tie as tie
-
-pub symm_narrow_spec : {M : Type 1} → statement M
-symm_narrow_spec = tie.close (tie.spec
-    (λ c κs. tt) (λ c κs. tt) (λ c κs. rw (c.is_left.ensures, c.element_plan-plan.ensures) c.requires)
-    (λ c. search rules) (λ c. rw (c.is_left.ensures, c.element_plan-plan.ensures) at c.symm_elements.ensures))

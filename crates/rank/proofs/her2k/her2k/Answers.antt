@@ -1,0 +1,25 @@
+-- A refused call leaves its slab; a passed one does the plan's update (Kernels: her2k_factors, her2k_square, her2k_refused, her2k_done).
+use Rattle.number.specs.Kind.{kind}
+use Rattle.slabs.specs.Elem.{lent}
+use Rattle.rank_plan.proofs.Kernels.{her2k_factors, her2k_square, her2k_refused, her2k_done}
+use Rattle.rank.proofs.her2k.her2k.Goals as goal
+
+pub invariant_of-paired : goal.invariant_of-paired
+invariant_of-paired g c =
+    let n = g.N.Number.numbers in
+    let p = c.args in
+    record {
+      factors = search (her2k_factors n g.N.Number.multipliers p.uplo p.trans p.alpha (lent (kind n) p.a.now p.va) (lent (kind n) p.b.now p.vb) p.beta (lent (kind n) p.c.now p.vc));
+    }
+
+pub update-requires : goal.update-requires
+update-requires g c =
+    let n = g.N.Number.numbers in
+    let p = c.args in
+    search (her2k_square n g.N.Number.multipliers p.uplo p.trans p.alpha (lent (kind n) p.a.now p.va) (lent (kind n) p.b.now p.vb) p.beta (lent (kind n) p.c.now p.vc))
+
+pub returns-then-passed : goal.returns-then-passed
+returns-then-passed g c = search (her2k_done g.N.Number.numbers g.N.Number.multipliers)
+
+pub returns-else-passed : goal.returns-else-passed
+returns-else-passed g c = search (her2k_refused g.N.Number.numbers g.N.Number.multipliers)
