@@ -402,15 +402,6 @@ lines_in Left y k c false told e = omega arith
 lines_in Right y k c b told e = omega arith
 
 module _ (K : Kind) (y : System) (begin : K.Elem → K.Elem) (a s₀ : List K.Cell) where
-  pub lines_done : (k c : ℕ) (b : Bool) (r : Answer) (s : List K.Cell) → k ≡ first_zero K y a → b ≡ stops y k → c ≡ lines_solved y.side b y.b.cols
-      → r ≡ answered b → s ≡ solve_unknowns K y begin a c k s₀ → Solved K y begin a s₀ r s
-  lines_done k c b r s met told counted answers e =
-      let t : b ≡ stops y (first_zero K y a) = told ∙ ap (stops y) met in
-      record {
-        answer = answers ∙ ap answered t;
-        slab = e ∙ (λ i. solve_unknowns K y begin a ((counted ∙ (λ j. lines_solved y.side (t j) y.b.cols)) i) (met i) s₀);
-      }
-
   -- a vector, of one line
   module _ (k : ℕ) (s : List K.Cell) (one : y.b.cols ≡ 1) (met : k ≡ first_zero K y a) (e : s ≡ walk k (λ i. solve_unknown K y begin a i 0) s₀) where
     one_line : (side : Side) (b : Bool) → 1 ≡ lines_solved side b y.b.cols

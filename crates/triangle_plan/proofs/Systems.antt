@@ -23,7 +23,7 @@ use Rattle.blas.specs.Substitution.{unknown_at, unknown}
 use Rattle.blas.proofs.OpLaws.{op-elem, transposed-elem}
 use Rattle.triangle_plan.specs.declared.System.{System}
 use Rattle.triangle_plan.specs.Triangles.{lines_view, system_of, coefficient}
-use Rattle.triangle_plan.specs.Ready.{Pivots, Ready, ReadyAt, LinesReady, Sided}
+use Rattle.triangle_plan.specs.Ready.{Ready, LinesReady, Sided}
 
 -- ---- what is read
 
@@ -64,10 +64,6 @@ lines-index Right v p l = transposed-index v p l
 
 pub lines-elem : (K : Kind) (s : List K.Cell) (side : Side) (v : View) (p l : ℕ) → elem K s (lines_view side v) p l ≡ unknown K side s v p l
 lines-elem K s side v p l = ap (K.at s) (lines-index side v p l)
-
--- a product of what was read
-pub weighed : (K : Kind) (c c' x x' z : K.Elem) → c ≡ c' → x ≡ x' → z ≡ K.mul c x → z ≡ K.mul c' x'
-weighed K c c' x x' z h g e = e ∙ (λ i. K.mul (h i) (g i))
 
 -- ---- that it is inside
 
@@ -116,27 +112,6 @@ module _ (uplo : UpLo) (t : Trans) (diag : Diag) (va : View) (la : ℕ) (vb : Vi
 pub one_line : (uplo : UpLo) (t : Trans) (diag : Diag) (a v x : View) (y : System) → v ≡ column_of x → y ≡ system_of Left uplo t diag a v → y.b.cols ≡ 1
 one_line uplo t diag a v x y columned made = ap (λ (z : System). z.b.cols) made ∙ ap (λ (z : View). z.cols) columned
 
-module _ (y : System) (la lb : ℕ) where
-  -- on a slab that keeps its length
-  pub ready-kept : (lb' : ℕ) → Ready y la lb → lb' ≡ lb → Ready y la lb'
-  ready-kept lb' r kept = subst (λ (n : ℕ). Ready y la n) (sym kept) r
-
-  pub pivot-shown : (q : ℕ) → Pivots y la → q < y.b.rows → Within y.a la q q
-  pivot-shown q r h =
-      record { fits = r.a; row = subst (λ (m : ℕ). q < m) (sym r.rows) h; col = subst (λ (m : ℕ). q < m) (sym r.cols) h }
-
-  module _ (r : Ready y la lb) where
-    pub unknown-shown : (p l : ℕ) → p < y.b.rows → l < y.b.cols → Within y.b lb p l
-    unknown-shown p l h g = record { fits = r.b; row = h; col = g }
-
-  -- unknown q, or the one that comes after q others, of line l, on a slab that keeps its length
-  pub ready_for : (lb' m n q l : ℕ) → Ready y la lb → lb' ≡ lb → m ≡ y.b.rows → n ≡ y.b.cols → q < m → l < n → ReadyAt y la lb' q l
-  ready_for lb' m n q l r kept counted wide h g = record {
-    ready = ready-kept lb' r kept;
-    unknown = subst (λ (k : ℕ). q < k) counted h;
-    line = subst (λ (k : ℕ). l < k) wide g;
-  }
-
 -- ---- what w lines read and write
 
 module _ (y : System) (la lb q l w : ℕ) (r : LinesReady y la lb q l w) where
@@ -151,12 +126,3 @@ module _ (y : System) (la lb q l w : ℕ) (r : LinesReady y la lb q l w) where
   -- unknown p in each line
   pub lanes_shown : (p : ℕ) → p < y.b.rows → (t : ℕ) → t < w → Within y.b lb p (l + t)
   lanes_shown p h t g = record { fits = r.ready.b; row = h; col = omega (arith, r.lines) }
-
--- ---- an element of a row of B, whose slab keeps its length
-
-pub in_row : (vb : View) (lb lb' i j n : ℕ) → Accepted vb lb → lb' ≡ lb → i < vb.rows → n ≡ vb.cols → j < n → Within vb lb' i j
-in_row vb lb lb' i j n a kept h e g =
-    record { fits = subst (λ (x : ℕ). Accepted vb x) (sym kept) a; row = h; col = subst (λ (x : ℕ). j < x) e g }
-
-pub row_in : (vb : View) (lb lb' i m : ℕ) → Accepted vb lb → lb' ≡ lb → m ≡ vb.rows → i < m → Accepted vb lb' × (i < vb.rows)
-row_in vb lb lb' i m a kept e g = (subst (λ (x : ℕ). Accepted vb x) (sym kept) a, subst (λ (x : ℕ). i < x) e g)
