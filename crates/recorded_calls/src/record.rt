@@ -29,7 +29,14 @@ impl Record<'_> {
     pub fn routine(self) -> Result<Routine, UnknownNumber>
         ensures { Decodes routine_number 16 (get_or self.entry.bytes.now 0 0) result }
     {
-        Routine::try_from(byte(self.bytes, 0))
+        Routine::try_from(self.routine_byte())
+    }
+
+    // The number of the routine, which in a list may be any.
+    pub fn routine_byte(self) -> u8
+        ensures { result ≡ get_or self.entry.bytes.now 0 0 }
+    {
+        byte(self.bytes, 0)
     }
 
     // The number of the answer of the call, which in a list may be any.

@@ -255,18 +255,43 @@ impl fmt::Display for UnknownFlag {
 
 impl Error for UnknownFlag {}
 
+impl Trans {
+    // The flag of a number; past the last one's, the last.
+    #[tactic(auto, unfolding(crate::specs::Flags::trans_of))]
+    pub fn of(n: u8) -> Trans
+        ensures { result ≡ trans_of n }
+    {
+        match n {
+            0 => Trans::NoTrans,
+            1 => Trans::Trans,
+            _ => Trans::ConjTrans,
+        }
+    }
+}
+
 impl TryFrom<u8> for Trans {
     type Error = UnknownFlag;
 
     ghost try_from_gives = { Decodes trans_in_range trans_of };
 
-    #[tactic(auto, unfolding(crate::specs::Flags::trans_of))]
     fn try_from(n: u8) -> Result<Trans, UnknownFlag> {
+        if n < 3 {
+            Ok(Trans::of(n))
+        } else {
+            Err(UnknownFlag(n))
+        }
+    }
+}
+
+impl UpLo {
+    // The flag of a number; past the last one's, the last.
+    #[tactic(auto, unfolding(crate::specs::Flags::up_lo_of))]
+    pub fn of(n: u8) -> UpLo
+        ensures { result ≡ up_lo_of n }
+    {
         match n {
-            0 => Ok(Trans::NoTrans),
-            1 => Ok(Trans::Trans),
-            2 => Ok(Trans::ConjTrans),
-            _ => Err(UnknownFlag(n)),
+            0 => UpLo::Upper,
+            _ => UpLo::Lower,
         }
     }
 }
@@ -276,12 +301,24 @@ impl TryFrom<u8> for UpLo {
 
     ghost try_from_gives = { Decodes up_lo_in_range up_lo_of };
 
-    #[tactic(auto, unfolding(crate::specs::Flags::up_lo_of))]
     fn try_from(n: u8) -> Result<UpLo, UnknownFlag> {
+        if n < 2 {
+            Ok(UpLo::of(n))
+        } else {
+            Err(UnknownFlag(n))
+        }
+    }
+}
+
+impl Side {
+    // The flag of a number; past the last one's, the last.
+    #[tactic(auto, unfolding(crate::specs::Flags::side_of))]
+    pub fn of(n: u8) -> Side
+        ensures { result ≡ side_of n }
+    {
         match n {
-            0 => Ok(UpLo::Upper),
-            1 => Ok(UpLo::Lower),
-            _ => Err(UnknownFlag(n)),
+            0 => Side::Left,
+            _ => Side::Right,
         }
     }
 }
@@ -291,12 +328,24 @@ impl TryFrom<u8> for Side {
 
     ghost try_from_gives = { Decodes side_in_range side_of };
 
-    #[tactic(auto, unfolding(crate::specs::Flags::side_of))]
     fn try_from(n: u8) -> Result<Side, UnknownFlag> {
+        if n < 2 {
+            Ok(Side::of(n))
+        } else {
+            Err(UnknownFlag(n))
+        }
+    }
+}
+
+impl Diag {
+    // The flag of a number; past the last one's, the last.
+    #[tactic(auto, unfolding(crate::specs::Flags::diag_of))]
+    pub fn of(n: u8) -> Diag
+        ensures { result ≡ diag_of n }
+    {
         match n {
-            0 => Ok(Side::Left),
-            1 => Ok(Side::Right),
-            _ => Err(UnknownFlag(n)),
+            0 => Diag::NonUnit,
+            _ => Diag::Unit,
         }
     }
 }
@@ -306,12 +355,11 @@ impl TryFrom<u8> for Diag {
 
     ghost try_from_gives = { Decodes diag_in_range diag_of };
 
-    #[tactic(auto, unfolding(crate::specs::Flags::diag_of))]
     fn try_from(n: u8) -> Result<Diag, UnknownFlag> {
-        match n {
-            0 => Ok(Diag::NonUnit),
-            1 => Ok(Diag::Unit),
-            _ => Err(UnknownFlag(n)),
+        if n < 2 {
+            Ok(Diag::of(n))
+        } else {
+            Err(UnknownFlag(n))
         }
     }
 }
