@@ -41,6 +41,7 @@ impl<'a, N: Number> Operands<'a, N> {
     }
 
     // Term p of element (i, j).
+    #[inline(always)]
     pub fn term(&self, f: Factors, i: usize, j: usize, p: usize) -> N
         requires { Within f.left (N.numbers.count self.now.a.now) i p × Within f.right (N.numbers.count self.now.b.now) p j }
         ensures { result ≡ term (kind N.numbers) f self.now.a.now self.now.b.now i j p }
@@ -49,9 +50,11 @@ impl<'a, N: Number> Operands<'a, N> {
         x.mul(elem_conj(f.right_conj, self.b, f.right, p, j))
     }
 
-    // The sum with the terms of element (i, j) from `from` to before `end` added.
+    // The sum with the terms of element (i, j) from `from` to before `end` added. It and what an element of a plan that does not fold
+    // needs are put into the caller whole: else the plan is in memory, which costs most of a small call.
+    #[inline(always)]
     #[tactic(auto, using(crate::proofs::Steps::terms))]
-    pub fn add_run(&self, f: Factors, i: usize, j: usize, from: usize, end: usize, sum: N) -> N
+    fn add_terms(&self, f: Factors, i: usize, j: usize, from: usize, end: usize, sum: N) -> N
         requires { FactorsWithin f (N.numbers.count self.now.a.now) (N.numbers.count self.now.b.now) i j from end }
         ensures { result ≡ plus_terms (kind N.numbers) sum (term (kind N.numbers) f self.now.a.now self.now.b.now i j) from (end - from) }
     {
@@ -60,6 +63,14 @@ impl<'a, N: Number> Operands<'a, N> {
             total = total.add(self.term(f, i, j, p));
         }
         total
+    }
+
+    // The same by itself, so that the compiler settles before the loop which factors are conjugated.
+    pub fn add_run(&self, f: Factors, i: usize, j: usize, from: usize, end: usize, sum: N) -> N
+        requires { FactorsWithin f (N.numbers.count self.now.a.now) (N.numbers.count self.now.b.now) i j from end }
+        ensures { result ≡ plus_terms (kind N.numbers) sum (term (kind N.numbers) f self.now.a.now self.now.b.now i j) from (end - from) }
+    {
+        self.add_terms(f, i, j, from, end, sum)
     }
 
     // W sums, those of elements (i, j) to before (i, j + W), with the terms from `from` to before `end` added.
@@ -115,16 +126,18 @@ impl<'a, N: Number> Operands<'a, N> {
     }
 
     // Element (i, j) of the target.
+    #[inline(always)]
     #[tactic(auto, using(crate::proofs::Steps::sums))]
     pub fn entry(&self, plan: Plan, c: &mut [N::Cell], i: usize, j: usize)
         requires { CanRun N.numbers plan self.now c.old × (i < plan.target.rows) × (j < plan.target.cols) }
         ensures { c.new ≡ replaced (kind N.numbers) plan.target i j (plan_work N.numbers N.multipliers plan self.now i j) c.old }
     {
-        let sum = self.add_run(plan.factors, i, j, 0, plan.terms, N::zero());
+        let sum = self.add_terms(plan.factors, i, j, 0, plan.terms, N::zero());
         self.settle(plan.target, c, i, j, sum);
     }
 
     // Row i of the target.
+    #[inline(always)]
     #[tactic(auto, using(crate::proofs::Steps::rows))]
     pub fn row(&self, plan: Plan, c: &mut [N::Cell], i: usize)
         requires { CanRun N.numbers plan self.now c.old × (i < plan.target.rows) }
@@ -136,6 +149,7 @@ impl<'a, N: Number> Operands<'a, N> {
     }
 
     // The whole target.
+    #[inline(always)]
     #[tactic(auto, using(crate::proofs::Steps::rows))]
     pub fn run(&self, plan: Plan, c: &mut [N::Cell])
         requires { CanRun N.numbers plan self.now c.old }
@@ -147,6 +161,7 @@ impl<'a, N: Number> Operands<'a, N> {
     }
 
     // Row i of the target's named triangle.
+    #[inline(always)]
     #[tactic(auto, using(crate::proofs::Steps::columns))]
     fn triangle_row(&self, uplo: UpLo, plan: Plan, c: &mut [N::Cell], i: usize)
         requires { CanRun N.numbers plan self.now c.old × (i < plan.target.rows) × (i < plan.target.cols) }
@@ -158,6 +173,7 @@ impl<'a, N: Number> Operands<'a, N> {
     }
 
     // The target's whole named triangle.
+    #[inline(always)]
     #[tactic(auto, using(crate::proofs::Steps::rows))]
     pub fn run_triangle(&self, uplo: UpLo, plan: Plan, c: &mut [N::Cell])
         requires { CanRun N.numbers plan self.now c.old × (plan.target.rows ≡ plan.target.cols) }

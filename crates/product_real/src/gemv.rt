@@ -46,8 +46,14 @@ fn settle_column<R: Real>(
     requires { Accepted v (R.numbers.count c.old) × (v.cols ≡ 1) × Block 8 from first (from + 8) v.rows }
     ensures { c.new ≡ span_rows (kind R.numbers) v (accumulate (kind R.numbers) (scale_by R.numbers R.multipliers ops.now.beta) (R.multipliers.times ops.now.alpha) (λ i j. lane (kind R.numbers) sums (i - from))) first (from + 8) c.old }
 {
+    let own: Operands<R> = Operands {
+        a: ops.a,
+        b: ops.b,
+        alpha: ops.alpha,
+        beta: ops.beta,
+    };
     for i in first..from + 8 {
-        ops.settle(v, c, i, 0, sums[i - from]);
+        own.settle(v, c, i, 0, sums[i - from]);
     }
 }
 

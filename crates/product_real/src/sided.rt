@@ -66,7 +66,13 @@ fn wide<R: Real>(side: Side, ops: &Operands<R>, u: View, vb: View, c: &mut [R::C
     match side {
         Side::Left => {
             let plan = left_plan(false, UpLo::Upper, u, vb, vc.rows, vc);
-            run_wide::<R, true>(ops, plan, c);
+            let own: Operands<R> = Operands {
+                a: ops.a,
+                b: ops.b,
+                alpha: ops.alpha,
+                beta: ops.beta,
+            };
+            run_wide::<R, true>(&own, plan, c);
         },
         Side::Right => {
             let plan = right_plan(false, UpLo::Upper, u, vb, vc.cols, vc);

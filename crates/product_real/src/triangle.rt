@@ -31,14 +31,21 @@ fn run_wide<R: Real>(ops: &Operands<R>, uplo: UpLo, plan: Plan, c: &mut [R::Cell
     }
 }
 
-// The whole triangle.
+// The whole triangle. What is multiplied, and alpha and beta, are copied: else they are read from memory for every element, since the
+// target might be theirs for all that the compiler knows.
 pub(crate) fn run<R: Real>(ops: &Operands<R>, uplo: UpLo, plan: Plan, c: &mut [R::Cell])
     requires { CanRun R.numbers plan ops.now c.old × (plan.target.rows ≡ plan.target.cols) }
     ensures { c.new ≡ update (kind R.numbers) plan.target (in_triangle uplo) (plan_work R.numbers R.multipliers plan ops.now) c.old }
 {
+    let own: Operands<R> = Operands {
+        a: ops.a,
+        b: ops.b,
+        alpha: ops.alpha,
+        beta: ops.beta,
+    };
     if 8 <= plan.target.cols {
-        run_wide(ops, uplo, plan, c);
+        run_wide(&own, uplo, plan, c);
     } else {
-        ops.run_triangle(uplo, plan, c);
+        own.run_triangle(uplo, plan, c);
     }
 }

@@ -175,16 +175,17 @@ impl<'a, N: Number, W: Weigh<N>> Paired<'a, N, W> {
         }
     }
 
-    // The whole target, its rows L columns at a time where they are at least FROM.
+    // The whole target, its rows L columns at a time where they are at least FROM and there are TERMS terms or more. Without terms
+    // each sum is zero: column after column, it is weighed once for all.
     #[inline(always)]
-    fn rows<const L: usize, const FROM: usize>(&self, c: &mut [N::Cell])
+    fn rows<const L: usize, const FROM: usize, const TERMS: usize>(&self, c: &mut [N::Cell])
         requires square { SquareWithin self.now.plan.target (N.numbers.count c.old) }
         requires some { 0 < L }
         requires wide { L ≤ FROM }
         ensures { c.new ≡ update (kind N.numbers) self.now.plan.target (in_triangle self.now.plan.uplo) (paired_change (kind N.numbers) self.now.plan self.now.a.now self.now.b.now (W.weights self.now.weigh) (scale_by N.numbers N.multipliers self.now.beta)) c.old }
     {
         for i in 0..self.plan.target.rows {
-            if FROM <= self.plan.target.cols {
+            if FROM <= self.plan.target.cols && TERMS <= self.plan.terms {
                 self.wide_row::<L>(c, i);
             } else {
                 self.narrow_row(c, i);
@@ -192,16 +193,16 @@ impl<'a, N: Number, W: Weigh<N>> Paired<'a, N, W> {
         }
     }
 
-    // The whole target. A const argument has to be a number, and four complex sums gain only from sixteen columns on.
+    // The whole target. A const argument has to be a number, and four complex sums gain only from sixteen columns and two terms on.
     #[inline(always)]
     pub(crate) fn update(&self, c: &mut [N::Cell])
         requires { SquareWithin self.now.plan.target (N.numbers.count c.old) }
         ensures { c.new ≡ update (kind N.numbers) self.now.plan.target (in_triangle self.now.plan.uplo) (paired_change (kind N.numbers) self.now.plan self.now.a.now self.now.b.now (W.weights self.now.weigh) (scale_by N.numbers N.multipliers self.now.beta)) c.old }
     {
         if N::LANES == 4 {
-            self.rows::<4, 16>(c);
+            self.rows::<4, 16, 2>(c);
         } else {
-            self.rows::<8, 8>(c);
+            self.rows::<8, 8, 1>(c);
         }
     }
 }

@@ -11,6 +11,12 @@ use kinds::Number;
 use slabs::{elem, place, zeros};
 use view::View;
 
+// Whether lines gain by being worked out W at a time, with that many elements in each: four of them only if not with five lines, of
+// which three would be worked out twice, nor with few elements. What a call gives is the same.
+pub(crate) fn gain(w: usize, lines: usize, elements: usize) -> bool {
+    8 <= w || (lines != 5 && 4 <= elements)
+}
+
 // The elements of row q of a view from column l on.
 pub(crate) fn lanes_at<N: Number, const W: usize>(
     s: &[N::Cell],

@@ -7,7 +7,7 @@ ghost use Rattle.triangle_plan.specs.Triangles.{times_if};
 ghost use Rattle.triangle_plan.specs.Ready.{LinesReady, Ready, Taken, Wide};
 ghost use Rattle.triangle_plan.specs.Multiply as multiply;
 
-use crate::lanes::{put_lanes, times_lanes};
+use crate::lanes::{gain, put_lanes, times_lanes};
 use crate::line::line_sums;
 use kinds::Number;
 use triangle_plan::{System, in_order};
@@ -54,6 +54,24 @@ fn multiply_across<N: Number, const W: usize>(
     }
 }
 
+// The same, line by line.
+#[tactic(auto, using(crate::proofs::Steps::walks))]
+fn multiply_each<N: Number>(
+    sys: System,
+    alpha: Option<N>,
+    a: &[N::Cell],
+    b: &mut [N::Cell],
+    k: usize,
+)
+    requires ready { Ready sys (N.numbers.count a.now) (N.numbers.count b.old) }
+    requires element { k < sys.b.rows }
+    ensures { b.new ≡ multiply.multiply_across (kind N.numbers) sys a.now (times_if (kind N.numbers) alpha) k b.old }
+{
+    for l in 0..sys.b.cols {
+        multiply_lanes::<N, 1>(sys, alpha, a, b, k, l, 0);
+    }
+}
+
 // Every element in every line.
 #[tactic(auto, using(crate::proofs::Steps::walks))]
 fn multiply_all<N: Number, const W: usize>(
@@ -71,6 +89,17 @@ fn multiply_all<N: Number, const W: usize>(
     }
 }
 
+// The same, line by line.
+#[tactic(auto, using(crate::proofs::Steps::walks))]
+fn multiply_all_each<N: Number>(sys: System, alpha: Option<N>, a: &[N::Cell], b: &mut [N::Cell])
+    requires ready { Ready sys (N.numbers.count a.now) (N.numbers.count b.old) }
+    ensures { b.new ≡ multiply.multiply_all (kind N.numbers) sys a.now (times_if (kind N.numbers) alpha) b.old }
+{
+    for k in 0..sys.b.rows {
+        multiply_each::<N>(sys, alpha, a, b, k);
+    }
+}
+
 // All of a vector.
 #[tactic(auto, using(crate::proofs::Steps::walks))]
 pub fn multiply_vector<N: Number>(sys: System, a: &[N::Cell], b: &mut [N::Cell])
@@ -83,7 +112,8 @@ pub fn multiply_vector<N: Number>(sys: System, a: &[N::Cell], b: &mut [N::Cell])
     }
 }
 
-// All of B times alpha where there is one: W lines at a time where there are as many, else four, else one.
+// All of B times alpha where there is one: W lines at a time where there are as many, and four of eight's, where they gain by it; else line
+// by line.
 pub fn multiply<N: Number, const W: usize>(
     sys: System,
     alpha: Option<N>,
@@ -94,11 +124,11 @@ pub fn multiply<N: Number, const W: usize>(
     requires wide { Wide W }
     ensures { b.new ≡ multiply.multiply_all (kind N.numbers) sys a.now (times_if (kind N.numbers) alpha) b.old }
 {
-    if W <= sys.b.cols {
+    if W <= sys.b.cols && gain(W, sys.b.cols, 4) {
         multiply_all::<N, W>(sys, alpha, a, b);
-    } else if 4 <= sys.b.cols {
+    } else if 8 <= W && 4 <= sys.b.cols {
         multiply_all::<N, 4>(sys, alpha, a, b);
     } else {
-        multiply_all::<N, 1>(sys, alpha, a, b);
+        multiply_all_each::<N>(sys, alpha, a, b);
     }
 }

@@ -21,4 +21,4 @@ loop-k-preserved g c =
 pub returns : goal.returns
 returns g c =
     let i = c.loop-k.invariant in
-    vector_done (kind g.N.Number.numbers) _ _ _ _ _ _ c.requires.one (first_nowhere _ _ _ (omega arith) i.0) (walk_end _ _ _ _ _ c.loop-k.auto.k-end (omega arith) i.1) (omega arith)
+    vector_done (kind g.N.Number.numbers) _ _ _ _ _ _ c.requires.one (first_nowhere _ _ _ (omega arith) i.0) (walk_end _ _ _ c.args.sys.b.rows _ (omega (arith, c.loop-k.auto.k-end)) (omega arith) i.1) (omega arith)
