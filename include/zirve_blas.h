@@ -61,8 +61,8 @@
 
 #define ZB_VERSION_MAJOR 0
 #define ZB_VERSION_MINOR 1
-#define ZB_VERSION_PATCH 3
-#define ZB_VERSION "0.1.3"
+#define ZB_VERSION_PATCH 4
+#define ZB_VERSION "0.1.4"
 
 enum zb_trans { ZB_NO_TRANS = 0, ZB_TRANS = 1, ZB_CONJ_TRANS = 2 };
 enum zb_uplo { ZB_UPPER = 0, ZB_LOWER = 1 };
